@@ -1,0 +1,5 @@
+pub mod Steps
+pub mod Sets
+pub mod Areas
+pub mod Arounds
+pub mod Faults

@@ -1,0 +1,4 @@
+pub mod Row
+pub mod Boxes
+pub mod Plans
+pub mod LawsBoxes
