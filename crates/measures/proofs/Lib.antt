@@ -1,0 +1,6 @@
+pub mod Sums
+pub mod Rules
+pub mod Unlike
+pub mod Bars
+pub mod Layered
+pub mod Kin

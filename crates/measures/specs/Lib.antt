@@ -1,0 +1,5 @@
+pub mod Floor
+pub mod Costs
+pub mod Hammings
+pub mod Layers
+pub mod Families
