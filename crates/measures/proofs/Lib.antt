@@ -4,3 +4,5 @@ pub mod Unlike
 pub mod Bars
 pub mod Layered
 pub mod Kin
+pub mod Tallies
+pub mod Countings

@@ -20,7 +20,8 @@ impl<M> CutOff<M> {
     }
 }
 
-fn up_to(limit: u32, answer: Option<u32>) -> Option<u32>
+// A distance or a floor above the limit becomes none.
+pub fn up_to(limit: u32, answer: Option<u32>) -> Option<u32>
     ensures { λ r. ⌜ r ≡ upTo limit answer ⌝ }
 {
     match answer {

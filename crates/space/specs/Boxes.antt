@@ -83,10 +83,9 @@ words (m ∷ b) = ltb m (2 ^ 64) && words b
 abbrev pub isBox : List ℕ → Bool
 isBox b = dimensions (length b) && words b
 
--- a number, or none where the test fails
+-- a value where the test holds, else none
 abbrev pub given : {X : Type 0} → Bool → X → Option X
-given true x = Some x
-given false x = None
+given test x = cond test (Some x) None
 
 -- the area, of a box
 abbrev pub areaOf : List ℕ → Option ℕ

@@ -1,0 +1,5 @@
+pub mod Sames
+pub mod Places
+pub mod Ranks
+pub mod Finds
+mod Steps

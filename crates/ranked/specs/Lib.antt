@@ -1,0 +1,4 @@
+pub mod Same
+pub mod Rank
+pub mod Find
+pub mod LawsRank
