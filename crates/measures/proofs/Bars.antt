@@ -30,7 +30,7 @@ without-has m x l =
     let b = x / 2 ^ l in
     let shifted : without m x / 2 ^ l ≡ bitXor a (bitAnd a b) = xor-shr m (bitAnd m x) l ∙ ap (bitXor a) (and-shr m x l) in
     let digit : without m x / 2 ^ l % 2 ≡ bitXor (a % 2) (bitAnd (a % 2) (b % 2)) =
-      ap (λ n. n % 2) shifted ∙ xor-mod a (bitAnd a b) 1 ∙ ap (bitXor (a % 2)) (and-mod a b 1) in
+    ap (λ n. n % 2) shifted ∙ xor-mod a (bitAnd a b) 1 ∙ ap (bitXor (a % 2)) (and-mod a b 1) in
     ap (λ n. eqb n 1) digit ∙ bit-without (a % 2) (b % 2) (omega arith) (omega arith)
 
 without-word : (m x : ℕ) → m < 2 ^ 64 → without m x < 2 ^ 64
@@ -83,7 +83,7 @@ abbrev pub Spared : List ℕ → List ℕ → List ℕ → ℕ → Type 0
 Spared bars b left i = take i left ++ spared (drop i bars) (drop i b) ≡ spared bars b
 
 pub spared-more : (bars b left : List ℕ) (i : ℕ) → i < length bars → i < length b → i < length left → Spared bars b left i
-  → Spared bars b (set left i (without (getD b i 0) (getD bars i 0))) (i + 1)
+    → Spared bars b (set left i (without (getD b i 0) (getD bars i 0))) (i + 1)
 spared-more bars b left i h k n going =
     write-more left i (without (getD b i 0) (getD bars i 0)) (spared (drop (i + 1) bars) (drop (i + 1) b)) n
     ∙ ap (λ t. take i left ++ t) (sym (two-more spared bars b i h k)) ∙ going

@@ -85,17 +85,19 @@ module _ (plan : List ℕ) (clips : List Clip) (numbers : List (List ℕ)) (k : 
     counted-stop e = sym (so-far .fits) ∙ ap (ofPlan plan) next-rows ∙ ap (λ t. not t && ofPlan plan (rowsOf (drop (k + 1) clips))) e
 
     pub counted-more : vectorFault plan (rowOf c .letters) ≡ None → (new : List (List ℕ)) → Shaped new
-      → ((i l : ℕ) → numberAt new i l ≡ numberAt numbers i l + oneAt i l (rowOf c .letters)) → Counted-so-far plan clips new (k + 1)
+        → ((i l : ℕ) → numberAt new i l ≡ numberAt numbers i l + oneAt i l (rowOf c .letters)) → Counted-so-far plan clips new (k + 1)
     counted-more e new s add =
         record {
           fits = sym (ap (λ f. not (isSome f) && ofPlan plan (rowsOf (drop (k + 1) clips))) e) ∙ sym (ap (ofPlan plan) next-rows) ∙ so-far .fits;
           shape = s;
-          sums = λ i l. let a = add i l in let b = so-far .sums i l in let n = ap (countAt i l) next-rows in omega arith }
+          sums = λ i l. let a = add i l in let b = so-far .sums i l in let n = ap (countAt i l) next-rows in omega arith;
+        }
 
   pub counted-all : length clips ≤ k → (ofPlan plan (rowsOf clips) ≡ true) × ((i l : ℕ) → numberAt numbers i l ≡ countAt i l (rowsOf clips))
-  counted-all h =
-      (sym (so-far .fits) ∙ one-all (λ cs. ofPlan plan (rowsOf cs)) clips k h,
-       λ i l. let s = so-far .sums i l in let e = one-all (λ cs. countAt i l (rowsOf cs)) clips k h in omega arith)
+  counted-all h = (
+    sym (so-far .fits) ∙ one-all (λ cs. ofPlan plan (rowsOf cs)) clips k h,
+    λ i l. let s = so-far .sums i l in let e = one-all (λ cs. countAt i l (rowsOf cs)) clips k h in omega arith,
+  )
 
 -- ---- what the limits say
 pub limits-parts : (plan : List ℕ) (n : ℕ) → limits plan n ≡ true → (planFault plan ≡ None) × (1 ≤ n) × (n ≤ 4096)

@@ -37,7 +37,7 @@ all-at (suc n) p h l k =
 
 -- a mask that has, of all letters, just those of the family f; the test is computed
 pub mask-akin : (mask f : ℕ) → allBelow 64 (λ l. same (has mask l) (eqb f (family l))) ≡ true
-  → (a : ℕ) → family a ≡ f → (l : ℕ) → l < 64 → has mask l ≡ akin a l
+    → (a : ℕ) → family a ≡ f → (l : ℕ) → l < 64 → has mask l ≡ akin a l
 mask-akin mask f h a e l k =
     same-is (has mask l) (eqb f (family l)) (all-at 64 (λ n. same (has mask n) (eqb f (family n))) h l k) ∙ ap (λ n. eqb n (family l)) (sym e)
 
@@ -66,6 +66,7 @@ without-top n x h e =
     small zero h f = refl
     small (suc zero) h f = absurd (f refl)
     small (suc (suc y)) h f = absurd (omega arith)
+
     le-div : (k y : ℕ) → 0 < k → k ≤ y → 1 ≤ y / k
     le-div k y p l = le-div-iff-mul-le p .1 (let o : 1 * k ≡ k = one-mul k in omega arith)
 
@@ -92,11 +93,11 @@ common-family m mask a h k =
 set-under : (a b m : ℕ) → has m b ≡ true → b ≤ 63 → strangeSet 0 a m ≤ strange 0 a b
 set-under a b m h k =
     let kin : akin a b ≡ true → anyBelow 64 (λ l. has m l && akin a l) ≡ true =
-      λ e. any-at 64 (λ l. has m l && akin a l) b (omega arith) (and-from (has m b) (akin a b) h e) in
+    λ e. any-at 64 (λ l. has m l && akin a l) b (omega arith) (and-from (has m b) (akin a b) h e) in
     go (has m a) refl (akin a b) refl (anyBelow 64 (λ l. has m l && akin a l)) kin (eqb a b) refl
   where
     go : (t : Bool) → has m a ≡ t → (u : Bool) → akin a b ≡ u → (w : Bool) → (u ≡ true → w ≡ true) → (e : Bool) → eqb a b ≡ e
-      → cond t 0 (cond w 1 2) ≤ cond e 0 (cond u 1 2)
+        → cond t 0 (cond w 1 2) ≤ cond e 0 (cond u 1 2)
     go true p u q w f e r = omega arith
     go false p u q w f true r = absurd (both-ways (has m a) p (ap (has m) (eqb-true a b r) ∙ h))
     go false p true q true f false r = omega arith
@@ -106,9 +107,10 @@ set-under a b m h k =
 
 pub family-costs : CostRule strange strangeSet
 family-costs = record {
-    under = λ i a b m h k. set-under a b m h k;
-    letters-most = λ i a b. few (eqb a b) (akin a b);
-    sets-most = λ i a m. few (has m a) (anyBelow 64 (λ l. has m l && akin a l)) }
+  under = λ i a b m h k. set-under a b m h k;
+  letters-most = λ i a b. few (eqb a b) (akin a b);
+  sets-most = λ i a m. few (has m a) (anyBelow 64 (λ l. has m l && akin a l));
+}
   where
     few : (t u : Bool) → cond t 0 (cond u 1 2) ≤ 40960
     few true u = omega arith

@@ -42,11 +42,12 @@ up-to-bounded limit (Some x) h = grind (arith, tells)
 module _ (d f : List ℕ → List ℕ → Option ℕ) (r : FloorRule d f) where
   pub cut-rule : (limit : ℕ) → FloorRule (cutDistance limit d) (cutFloor limit f)
   cut-rule limit = record {
-      under = λ q v b h k i.
+    under = λ q v b h k i.
         let e : vectorAndBox q b ≡ vectors q v = same-d q v b h i in
         rw e (cond-under (vectors q v) (upTo limit (f q b)) (upTo limit (d q v)) (up-to-under limit (f q b) (d q v) (r .under q v b h k i)));
-      far = λ q v h. cond-bounded (vectors q v) (upTo limit (d q v)) (up-to-bounded limit (d q v) (r .far q v h));
-      low = λ q b h. cond-bounded (vectorAndBox q b) (upTo limit (f q b)) (up-to-bounded limit (f q b) (r .low q b h)) }
+    far = λ q v h. cond-bounded (vectors q v) (upTo limit (d q v)) (up-to-bounded limit (d q v) (r .far q v h));
+    low = λ q b h. cond-bounded (vectorAndBox q b) (upTo limit (f q b)) (up-to-bounded limit (f q b) (r .low q b h));
+  }
 
   spared-box : (bars b : List ℕ) → isBox b ≡ true → isBox (spared bars b) ≡ true
   spared-box bars b h =
@@ -72,6 +73,7 @@ module _ (d f : List ℕ → List ℕ → Option ℕ) (r : FloorRule d f) where
 
   pub bar-rule : (bars : List ℕ) → FloorRule (barDistance bars d) (barFloor bars f)
   bar-rule bars = record {
-      under = λ q v b h k i. bar-under bars q v b h k i;
-      far = λ q v h. cond-bounded (vectors q v && not (barred bars v)) (d q v) (r .far q v h);
-      low = λ q b h. cond-bounded (vectorAndBox q b && not (gap (spared bars b))) (f q (spared bars b)) (r .low q (spared bars b) (spared-box bars b h)) }
+    under = λ q v b h k i. bar-under bars q v b h k i;
+    far = λ q v h. cond-bounded (vectors q v && not (barred bars v)) (d q v) (r .far q v h);
+    low = λ q b h. cond-bounded (vectorAndBox q b && not (gap (spared bars b))) (f q (spared bars b)) (r .low q (spared bars b) (spared-box bars b h));
+  }

@@ -48,14 +48,15 @@ module _ (letters sets : ℕ → ℕ → ℕ → ℕ) (r : CostRule letters sets
   sum-most cost h q y n = let m = costs-most cost 40960 h 0 q y in omega arith
 
   pub sums-rule : (s t : List ℕ → List ℕ → Bool) → ((q v : List ℕ) → s q v ≡ true → vectors q v ≡ true) → ((q b : List ℕ) → t q b ≡ true → vectorAndBox q b ≡ true)
-    → ((q v b : List ℕ) → isVector v ≡ true → inBox v b ≡ true → t q b ≡ s q v)
-    → FloorRule (λ q v. given (s q v) (costs letters 0 q v)) (λ q b. given (t q b) (costs sets 0 q b))
+      → ((q v b : List ℕ) → isVector v ≡ true → inBox v b ≡ true → t q b ≡ s q v)
+      → FloorRule (λ q v. given (s q v) (costs letters 0 q v)) (λ q b. given (t q b) (costs sets 0 q b))
   sums-rule s t asks-vectors asks-box alike = record {
-      under = λ q v b h k i.
+    under = λ q v b h k i.
         let small-v = and-parts (dimensions (length v)) (small v) h .1 in
         rw (alike q v b h i) (given-under (s q v) (costs sets 0 q b) (costs letters 0 q v) (costs-under letters sets r 0 q v b small-v i));
-      far = λ q v h. given-bounded (s q v) (costs letters 0 q v) (λ e. sum-most letters (r .letters-most) q v (vectors-parts q v (sym (asks-vectors q v e)) .1));
-      low = λ q b h. given-bounded (t q b) (costs sets 0 q b) (λ e. sum-most sets (r .sets-most) q b (vector-and-box-parts q b (sym (asks-box q b e)) .1)) }
+    far = λ q v h. given-bounded (s q v) (costs letters 0 q v) (λ e. sum-most letters (r .letters-most) q v (vectors-parts q v (sym (asks-vectors q v e)) .1));
+    low = λ q b h. given-bounded (t q b) (costs sets 0 q b) (λ e. sum-most sets (r .sets-most) q b (vector-and-box-parts q b (sym (asks-box q b e)) .1));
+  }
 
   -- with no further test
   pub plain-rule : FloorRule (vectorCosts letters) (boxCosts sets)
@@ -65,5 +66,5 @@ module _ (letters sets : ℕ → ℕ → ℕ → ℕ) (r : CostRule letters sets
   pub tested-rule : (p : List ℕ → Bool) → FloorRule (λ q v. given (vectors q v && p q) (costs letters 0 q v)) (λ q b. given (vectorAndBox q b && p q) (costs sets 0 q b))
   tested-rule p =
       sums-rule (λ q v. vectors q v && p q) (λ q b. vectorAndBox q b && p q)
-        (λ q v e. and-parts (vectors q v) (p q) e .0) (λ q b e. and-parts (vectorAndBox q b) (p q) e .0)
-        (λ q v b h i. ap (λ x. x && p q) (same-d q v b h i))
+      (λ q v e. and-parts (vectors q v) (p q) e .0) (λ q b e. and-parts (vectorAndBox q b) (p q) e .0)
+      (λ q v b h i. ap (λ x. x && p q) (same-d q v b h i))

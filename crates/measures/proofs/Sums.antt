@@ -42,7 +42,7 @@ small-at (l ∷ v) (suc i) h = small-at v i (and-parts (leb l 63) (small v) h .1
 -- the step of the loops that sum
 module _ (cost : ℕ → ℕ → ℕ → ℕ) where
   pub costs-more : (xs ys : List ℕ) (i : ℕ) → i < length xs → i < length ys
-    → costs cost i (drop i xs) (drop i ys) ≡ cost i (getD xs i 0) (getD ys i 0) + costs cost (i + 1) (drop (i + 1) xs) (drop (i + 1) ys)
+      → costs cost i (drop i xs) (drop i ys) ≡ cost i (getD xs i 0) (getD ys i 0) + costs cost (i + 1) (drop (i + 1) xs) (drop (i + 1) ys)
   costs-more xs ys i h k =
       two-more (costs cost i) xs ys i h k ∙ ap (λ n. cost i (getD xs i 0) (getD ys i 0) + costs cost n (drop (i + 1) xs) (drop (i + 1) ys)) (sym (add-one i))
 

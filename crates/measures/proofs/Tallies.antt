@@ -56,6 +56,7 @@ module _ (t : List (List ℕ)) (i x : ℕ) (shaped : Shaped t) (row : i < 10) wh
       item : (u : Bool) → eqb l x ≡ u → cond u (numberAt t i x + 1) (numberAt t i l) ≡ numberAt t i l + cond (eqb x l) 1 0
       item true e = let p = eqb-true l x e in let q : eqb x l ≡ true = eq-eqb x l (sym p) in rw q (ap (λ y. numberAt t i y + 1) (sym p))
       item false e = let q : eqb x l ≡ false = ne-eqb x l (λ p. eqb-false l x e (sym p)) in rw q (omega arith)
+
       go : (u : Bool) → eqb j i ≡ u → getD (cond u (set (getD t i []) x (numberAt t i x + 1)) (getD t j [])) l 0 ≡ numberAt t j l + cond (u && eqb x l) 1 0
       go true e =
           let p = eqb-true j i e in
@@ -76,13 +77,14 @@ pub tallied-more : (old : List (List ℕ)) (v : List ℕ) (t : List (List ℕ)) 
 tallied-more old v t i s h k =
     record {
       shape = bumped-shape t i (getD v i 0) (s .shape) h;
-      numbers = λ j l. bumped-at t i (getD v i 0) (s .shape) h k j l ∙ next j l }
+      numbers = λ j l. bumped-at t i (getD v i 0) (s .shape) h k j l ∙ next j l;
+    }
   where
     next : (j l : ℕ) → numberAt t j l + cond (eqb j i && eqb (getD v i 0) l) 1 0 ≡ numberAt old j l + cond (ltb j (i + 1) && eqb (getD v j 0) l) 1 0
     next j l = ⊎-elim
-      (λ (e : j ≡ i). let n = s .numbers j l in let q = ap (λ y. getD v y 0) e in let w : eqb (getD v j 0) l ≡ eqb (getD v i 0) l = ap (λ y. eqb y l) q in grind (arith, tells))
-      (λ (e : j ≡ i → ⊥). let n = s .numbers j l in grind (arith, tells))
-      (cases-eq j i)
+        (λ (e : j ≡ i). let n = s .numbers j l in let q = ap (λ y. getD v y 0) e in let w : eqb (getD v j 0) l ≡ eqb (getD v i 0) l = ap (λ y. eqb y l) q in grind (arith, tells))
+        (λ (e : j ≡ i → ⊥). let n = s .numbers j l in grind (arith, tells))
+        (cases-eq j i)
 
 pub tallied-all : (old : List (List ℕ)) (v : List ℕ) (t : List (List ℕ)) (i : ℕ) → Tallied old v t i → i ≡ length v → (j l : ℕ) → numberAt t j l ≡ numberAt old j l + oneAt j l v
 tallied-all old v t i s e j l = s .numbers j l ∙ ap (λ n. numberAt old j l + cond (ltb j n && eqb (getD v j 0) l) 1 0) e

@@ -54,7 +54,11 @@ impl Count {
     pub fn fresh() -> Count
         ensures { λ r. ⌜ CountIs 1 1 (λ i l. 0) r ⌝ }
     {
-        Count { dimensions: 1, total: 1, numbers: no_numbers() }
+        Count {
+            dimensions: 1,
+            total: 1,
+            numbers: no_numbers(),
+        }
     }
 
     // The count of a library of 1 to 4,096 clips of one plan; none of anything else.
@@ -71,14 +75,22 @@ impl Count {
             }
             count_letters(&mut numbers, &clip.letters);
         }
-        Some(Count { dimensions: plan.len(), total: clips.len() as u32, numbers })
+        Some(Count {
+            dimensions: plan.len(),
+            total: clips.len() as u32,
+            numbers,
+        })
     }
 
     // How many of the clips have the letter in the dimension, counted from 0; 0 where there is no such dimension or letter.
     pub fn number(&self, dimension: usize, letter: u8) -> u32
         ensures { λ r. ⌜ r ≡ counted (now (self .entry)) dimension letter ⌝ }
     {
-        if dimension < 10 && letter < 64 { u32::from(self.numbers[dimension][letter as usize]) } else { 0 }
+        if dimension < 10 && letter < 64 {
+            u32::from(self.numbers[dimension][letter as usize])
+        } else {
+            0
+        }
     }
 
     // The grade of a GEH distance by this count.

@@ -36,10 +36,18 @@ pub impl<M: Measure> Measure for CutOff<M> as CutOffMeasure {
     ghost floors = { λ m. cutFloor (m .limit) (M·Measure .floors (m .below)) };
 
     fn distance(&self, query: &[u8], vector: &[u8]) -> Option<u32> {
-        if are_vectors(query, vector) { up_to(self.limit, self.below.distance(query, vector)) } else { None }
+        if are_vectors(query, vector) {
+            up_to(self.limit, self.below.distance(query, vector))
+        } else {
+            None
+        }
     }
 
     fn floor(&self, query: &[u8], sets: &[u64]) -> Option<u32> {
-        if are_vector_and_box(query, sets) { up_to(self.limit, self.below.floor(query, sets)) } else { None }
+        if are_vector_and_box(query, sets) {
+            up_to(self.limit, self.below.floor(query, sets))
+        } else {
+            None
+        }
     }
 }

@@ -61,11 +61,19 @@ impl Cost for Geh as GehCost {
     ghost setCost = { λ g. rareSet (g .count .dimensions) (g .count .total) (counted (g .count)) };
 
     fn letter_cost(&self, dimension: usize, query: u8, letter: u8) -> u32 {
-        if query == letter { self.like_cost(dimension, query) } else { self.unlike_cost() }
+        if query == letter {
+            self.like_cost(dimension, query)
+        } else {
+            self.unlike_cost()
+        }
     }
 
     fn set_cost(&self, dimension: usize, query: u8, set: u64) -> u32 {
-        if has(set, query) { self.like_cost(dimension, query) } else { self.unlike_cost() }
+        if has(set, query) {
+            self.like_cost(dimension, query)
+        } else {
+            self.unlike_cost()
+        }
     }
 }
 
@@ -75,10 +83,18 @@ pub impl Measure for Geh as GehMeasure {
     ghost floors = { λ g. gehFloor (g .count .dimensions) (g .count .total) (counted (g .count)) };
 
     fn distance(&self, query: &[u8], vector: &[u8]) -> Option<u32> {
-        if self.is_of_d(query) { vector_cost(self, query, vector) } else { None }
+        if self.is_of_d(query) {
+            vector_cost(self, query, vector)
+        } else {
+            None
+        }
     }
 
     fn floor(&self, query: &[u8], sets: &[u64]) -> Option<u32> {
-        if self.is_of_d(query) { box_cost(self, query, sets) } else { None }
+        if self.is_of_d(query) {
+            box_cost(self, query, sets)
+        } else {
+            None
+        }
     }
 }

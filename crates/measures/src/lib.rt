@@ -24,3 +24,6 @@ pub use geh::GehMeasure;
 pub use hamming::Hamming;
 pub use hamming::HammingMeasure;
 pub use measure::Measure;
+
+#[cfg(test)]
+mod tests;

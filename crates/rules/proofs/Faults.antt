@@ -36,9 +36,10 @@ pub faults-refuse : Faults-refuse
 faults-refuse = ((λ sizes. plans sizes (dimensions (length sizes))), vector-refused, (λ plan n v. clips plan v (eqb n 0)))
   where
     plans : (sizes : List ℕ) (t : Bool)
-      → mapped planRefusal (cond t (sizeFault 1 sizes) (Some plan.Dimensions)) ≡ (when (not t) 1 else whenAt 1 (badSize 1 sizes) 0)
+        → mapped planRefusal (cond t (sizeFault 1 sizes) (Some plan.Dimensions)) ≡ (when (not t) 1 else whenAt 1 (badSize 1 sizes) 0)
     plans sizes true = size-refused 0 sizes
     plans sizes false = refl
+
     clips : (sizes v : List ℕ) (t : Bool) → mapped clipRefusal (cond t (Some Number) (vectorFault sizes v)) ≡ (when t 7 else ofVector sizes v)
     clips sizes v true = refl
     clips sizes v false = vector-refused sizes v

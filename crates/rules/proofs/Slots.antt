@@ -7,7 +7,6 @@ use lib.ListN.{length, getD, take, drop}
 use Rattle.std.proofs.shelf.Lists.{length-take, length-drop, length-append, getD-append-left, getD-append-right, getD-take, getD-drop}
 use Rattle.ranked.specs.declared.find.Find.{Find}
 use Rattle.space.specs.Boxes.{filled}
-
 use Rattle.rules.specs.LawsFinds.{Filled-slots}
 
 pub length-filled : {X : Type 0} (finds slots : List X) → length (filled finds slots) ≡ length slots

@@ -65,6 +65,6 @@ Worked =
     × (division 1 (nine 1 2 4) ≡ 56)
     × (division 1 (nine 1 1 1) ≡ 14)
     × (ranking (λ r. hammingDistance (0 ∷ 3 ∷ []) (r .letters)) (row 7 (0 ∷ 3 ∷ []) ∷ row 5 (0 ∷ 3 ∷ []) ∷ row 6 (1 ∷ 3 ∷ []) ∷ [])
-        ≡ record { distance = 0; clip = 5 } ∷ record { distance = 0; clip = 7 } ∷ record { distance = 1; clip = 6 } ∷ [])
+    ≡ record { distance = 0; clip = 5 } ∷ record { distance = 0; clip = 7 } ∷ record { distance = 1; clip = 6 } ∷ [])
     × (saved (4 ∷ 4 ∷ []) (row 9 (1 ∷ 3 ∷ []) ∷ row 5 (0 ∷ 3 ∷ []) ∷ [])
-        ≡ 2 ∷ 4 ∷ 4 ∷ 2 ∷ 0 ∷ 5 ∷ 0 ∷ 0 ∷ 0 ∷ 9 ∷ 0 ∷ 0 ∷ 0 ∷ 0 ∷ 3 ∷ 1 ∷ 3 ∷ [])
+    ≡ 2 ∷ 4 ∷ 4 ∷ 2 ∷ 0 ∷ 5 ∷ 0 ∷ 0 ∷ 0 ∷ 9 ∷ 0 ∷ 0 ∷ 0 ∷ 0 ∷ 3 ∷ 1 ∷ 3 ∷ [])

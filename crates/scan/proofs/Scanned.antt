@@ -36,15 +36,15 @@ module _ (dist : Row → Option ℕ) (clips : List Clip) (slots : List Find) whe
   scanned-none = record { few = omega arith; count = omega arith; front = refl; back = refl }
 
   pub scanned-more : (s : List Find) (n k : ℕ) → Scanned dist clips slots s n k → length s ≡ length slots → (c : Clip) → k < length clips → c ≡ getD clips k c
-    → (o : Option ℕ) → o ≡ dist (rowOf c) → (m : ℕ) (t : List Find) → m ≡ n + length (hit o (c .number))
-    → take m t ≡ keepFirst ahead (length s) (take n s) (hit o (c .number)) → drop m t ≡ drop m s
-    → Scanned dist clips slots t m (k + 1)
+      → (o : Option ℕ) → o ≡ dist (rowOf c) → (m : ℕ) (t : List Find) → m ≡ n + length (hit o (c .number))
+      → take m t ≡ keepFirst ahead (length s) (take n s) (hit o (c .number)) → drop m t ≡ drop m s
+      → Scanned dist clips slots t m (k + 1)
   scanned-more s n k so-far long c h is o tells m t count front back =
       let here = hit o (c .number) in
       let later = findsOf dist (rowsOf (drop (k + 1) clips)) in
       let next : findsOf dist (rowsOf (drop k clips)) ≡ here ++ later =
-        one-more (λ cs. findsOf dist (rowsOf cs)) clips c k h ∙ ap (λ x. hit (dist (rowOf x)) (x .number) ++ later) (sym is)
-        ∙ ap (λ x. hit x (c .number) ++ later) (sym tells) in
+      one-more (λ cs. findsOf dist (rowsOf cs)) clips c k h ∙ ap (λ x. hit (dist (rowOf x)) (x .number) ++ later) (sym is)
+      ∙ ap (λ x. hit x (c .number) ++ later) (sym tells) in
       let one = hit-few o (c .number) in
       let both : length (findsOf dist (rowsOf (drop k clips))) ≡ length here + length later = ap length next ∙ length-append here later in
       let kept : take m t ≡ keepFirst ahead (length slots) (take n s) here = front ∙ ap (λ cap. keepFirst ahead cap (take n s) here) long in
@@ -52,9 +52,10 @@ module _ (dist : Row → Option ℕ) (clips : List Clip) (slots : List Find) whe
         few = let f = so-far .few in omega arith;
         count = let f = so-far .count in omega arith;
         front = ap (λ l. keepFirst ahead (length slots) l later) kept ∙ sym (keep-first-append ahead (length slots) (take n s) here later)
-          ∙ ap (keepFirst ahead (length slots) (take n s)) (sym next) ∙ so-far .front;
+            ∙ ap (keepFirst ahead (length slots) (take n s)) (sym next) ∙ so-far .front;
         back = back ∙ ap (λ j. drop j s) count ∙ sym (drop-drop (length here) n s) ∙ ap (drop (length here)) (so-far .back)
-          ∙ drop-drop (length here) n slots ∙ ap (λ j. drop j slots) (sym count) }
+            ∙ drop-drop (length here) n slots ∙ ap (λ j. drop j slots) (sym count);
+      }
 
   -- after all clips
   module _ (s : List Find) (n k : ℕ) (so-far : Scanned dist clips slots s n k) (over : length clips ≤ k) where
@@ -79,14 +80,18 @@ module _ (dist : Row → Option ℕ) (clips : List Clip) (slots : List Find) whe
 pub take-min : {X : Type 0} (s : List X) (n cap : ℕ) → length s ≡ cap → take (min n cap) s ≡ take n s
 take-min s n cap e =
     ⊎-elim (λ (h : n < cap). ap (λ j. take j s) (let z : min n cap ≡ n = omega arith in z))
-      (λ (h : cap ≤ n). take-all (min n cap) s (omega arith) ∙ sym (take-all n s (omega arith))) (cases-lt n cap)
+    (λ (h : cap ≤ n). take-all (min n cap) s (omega arith) ∙ sym (take-all n s (omega arith))) (cases-lt n cap)
 
 -- one find goes in: the first found + 1 are those of the list cut off
 pub put-front : (s t : List Find) (n r : ℕ) (f : Find) → length t ≡ length s → r ≡ min (n + 1) (length s)
-  → take r t ≡ take (length s) (place ahead f (take n s)) → take (n + 1) t ≡ keepFirst ahead (length s) (take n s) (f ∷ [])
+    → take r t ≡ take (length s) (place ahead f (take n s)) → take (n + 1) t ≡ keepFirst ahead (length s) (take n s) (f ∷ [])
 put-front s t n r f e c h = sym (take-min t (n + 1) (length s) e) ∙ ap (λ j. take j t) (sym c) ∙ h
 
 pub put-back : (s t : List Find) (n r : ℕ) → length t ≡ length s → r ≡ min (n + 1) (length s) → drop r t ≡ drop r s → drop (n + 1) t ≡ drop (n + 1) s
 put-back s t n r e c h =
     ⊎-elim (λ (l : n + 1 < length s). let z : n + 1 ≡ r = omega arith in ap (λ j. drop j t) z ∙ h ∙ ap (λ j. drop j s) (sym z))
-      (λ (l : length s ≤ n + 1). drop-all (n + 1) t (omega arith) ∙ sym (drop-all (n + 1) s (omega arith))) (cases-lt (n + 1) (length s))
+    (λ (l : length s ≤ n + 1). drop-all (n + 1) t (omega arith) ∙ sym (drop-all (n + 1) s (omega arith))) (cases-lt (n + 1) (length s))
+
+-- an answer about what a call was lent, told of what it was lent from
+pub told : {X Y : Type 0} (f : X → Y) (o : Y) (w v : X) → o ≡ f w → w ≡ v → o ≡ f v
+told f o w v e h = e ∙ ap f h

@@ -39,14 +39,25 @@ pub fn nearest<M: Measure>(measure: &M, query: &[u8], clips: &[Clip], slots: &mu
 {
     let mut found = 0;
     for clip in clips {
-        found = put_find(measure.distance(query, &clip.letters), clip.number, slots, found);
+        found = put_find(
+            measure.distance(query, &clip.letters),
+            clip.number,
+            slots,
+            found,
+        );
     }
     found.min(slots.len())
 }
 
 // The clips at most the radius away, by distance, then the lower number, go into the first slots, as far as there are slots; the answer
 // is how many there are in all. The other slots keep what they had.
-pub fn within<M: Measure>(measure: &M, query: &[u8], radius: u32, clips: &[Clip], slots: &mut [Find]) -> usize
+pub fn within<M: Measure>(
+    measure: &M,
+    query: &[u8],
+    radius: u32,
+    clips: &[Clip],
+    slots: &mut [Find],
+) -> usize
     ensures { λ r. ⌜ Hits (farBy (M·Measure .distances (now (measure .entry))) (now (query .entry))) radius (rowsOf (now (clips .entry))) (now (slots .entry)) (now (slots .exit)) r ⌝ }
 {
     let mut found = 0;
@@ -56,3 +67,6 @@ pub fn within<M: Measure>(measure: &M, query: &[u8], radius: u32, clips: &[Clip]
     }
     found
 }
+
+#[cfg(test)]
+mod tests;

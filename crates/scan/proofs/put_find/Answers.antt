@@ -19,4 +19,5 @@ returns-in-Some c =
     record {
       count = sym (ap (λ l. n + length l) is);
       front = put-front s t n (c .insert .result) _ (omega arith) count (c .insert .ensures .front) ∙ ap (keepFirst ahead (length s) (take n s)) (sym is);
-      back = put-back s t n (c .insert .result) (omega arith) count (c .insert .ensures .back) }
+      back = put-back s t n (c .insert .result) (omega arith) count (c .insert .ensures .back);
+    }

@@ -24,4 +24,5 @@ pub returns : need.returns
 returns c =
     record {
       shape = c .loop-i .inv .shape;
-      numbers = tallied-all (c .args .numbers .now) (c .args .letters .now) (c .loop-i .numbers) (c .loop-i .i) (c .loop-i .inv) (omega arith) }
+      numbers = tallied-all (c .args .numbers .now) (c .args .letters .now) (c .loop-i .numbers) (c .loop-i .i) (c .loop-i .inv) (omega arith);
+    }

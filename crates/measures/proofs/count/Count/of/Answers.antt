@@ -39,7 +39,8 @@ count-letters-requires c κs =
       few = omega arith;
       small = ap small e ∙ s .0;
       shape = c .loop-clip .inv .shape;
-      room = counted-few plan (c .args .clips .now) (c .loop-clip .numbers) (c .loop-clip .clip-index) (c .loop-clip .inv) (l .2) }
+      room = counted-few plan (c .args .clips .now) (c .loop-clip .numbers) (c .loop-clip .clip-index) (c .loop-clip .inv) (l .2);
+    }
 
 pub loop-clip-holds : need.loop-clip-holds
 loop-clip-holds c = counted-none (c .args .plan .now) (c .args .clips .now) (c .no-numbers-numbers .result) (c .no-numbers-numbers .ensures .shape) (c .no-numbers-numbers .ensures .numbers)
@@ -51,8 +52,8 @@ loop-clip-again c =
     let v = vec-items (c .clip-item .result .letters) in
     let f = fault-none plan v (c .deref .result .now) (c .check-vector .result) (c .check-vector .ensures) (c .deref .ensures .value) (c .if-is-err .ensures tt .value) in
     counted-more plan clips (c .loop-clip .numbers) (c .loop-clip .clip-index) (c .loop-clip .inv) (c .clip-item .result) (omega arith) (c .clip-item .is) f
-      (c .count-letters .last .numbers) (c .count-letters .ensures .shape)
-      (λ i l. c .count-letters .ensures .numbers i l ∙ ap (λ w. numberAt (c .loop-clip .numbers) i l + oneAt i l w) (c .deref-in-loop-clip .ensures .value))
+    (c .count-letters .last .numbers) (c .count-letters .ensures .shape)
+    (λ i l. c .count-letters .ensures .numbers i l ∙ ap (λ w. numberAt (c .loop-clip .numbers) i l + oneAt i l w) (c .deref-in-loop-clip .ensures .value))
 
 pub ghost-result : need.ghost-result
 ghost-result c =
@@ -60,15 +61,29 @@ ghost-result c =
     let clips = c .args .clips .now in
     let l = limits-parts plan (length clips) (sym (c .if-not-is-within-limits .ensures tt)) in
     let d = plan-dimensions plan (l .0) in
-    let all = counted-all plan clips (c .loop-clip .numbers) (c .loop-clip .clip-index) (c .loop-clip .inv) (omega arith) in
-    (d .0, (d .1, (l .1, (l .2, (c .loop-clip .inv .shape,
-      ((λ i x. let e = all .1 i x in let m = count-most i x (rowsOf clips) in let n = length-rows clips in omega arith), tt))))))
+    let all = counted-all plan clips (c .loop-clip .numbers) (c .loop-clip .clip-index) (c .loop-clip .inv) (omega arith) in (
+      d .0,
+      (
+        d .1,
+        (
+          l .1,
+          (
+            l .2,
+            (
+              c .loop-clip .inv .shape,
+              ((λ i x. let e = all .1 i x in let m = count-most i x (rowsOf clips) in let n = length-rows clips in omega arith), tt),
+            ),
+          ),
+        ),
+      ),
+    )
 
 pub returns : need.returns
 returns c =
     let plan = c .args .plan .now in
     let clips = c .args .clips .now in
     let t = limits-rows plan clips true (c .if-not-is-within-limits .ensures tt) in
-    let all = counted-all plan clips (c .loop-clip .numbers) (c .loop-clip .clip-index) (c .loop-clip .inv) (omega arith) in
-    (and-from (limits plan (length (rowsOf clips))) (ofPlan plan (rowsOf clips)) t (all .0),
-     record { dimensions = refl; total = sym (length-rows clips); numbers = all .1 })
+    let all = counted-all plan clips (c .loop-clip .numbers) (c .loop-clip .clip-index) (c .loop-clip .inv) (omega arith) in (
+      and-from (limits plan (length (rowsOf clips))) (ofPlan plan (rowsOf clips)) t (all .0),
+      record { dimensions = refl; total = sym (length-rows clips); numbers = all .1 },
+    )
