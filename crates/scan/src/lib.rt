@@ -39,12 +39,8 @@ pub fn nearest<M: Measure>(measure: &M, query: &[u8], clips: &[Clip], slots: &mu
 {
     let mut found = 0;
     for clip in clips {
-        found = put_find(
-            measure.distance(query, &clip.letters),
-            clip.number,
-            slots,
-            found,
-        );
+        let distance = measure.distance(query, &clip.letters);
+        found = put_find(distance, clip.number, slots, found);
     }
     found.min(slots.len())
 }

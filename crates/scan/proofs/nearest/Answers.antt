@@ -15,8 +15,8 @@ loop-clip-again g c =
     let dist = farBy (g .M·Measure .distances (c .args .measure .now)) (c .args .query .now) in
     scanned-more dist (c .args .clips .now) (c .args .slots .now) (c .loop-clip .slots) (c .loop-clip .found) (c .loop-clip .clip-index) (c .loop-clip .inv)
     (omega arith) (c .clip-item .result) (omega arith) (c .clip-item .is)
-    (c .distance .result) (told (g .M·Measure .distances (c .args .measure .now) (c .args .query .now)) (c .distance .result) (c .deref .result .now) (vec-items (c .clip-item .result .letters))
-    (c .distance .ensures) (c .deref .ensures .value)) (c .put-find-found .result) (c .put-find-found .last .slots)
+    (c .distance-distance .result) (told (g .M·Measure .distances (c .args .measure .now) (c .args .query .now)) (c .distance-distance .result) (c .deref .result .now) (vec-items (c .clip-item .result .letters))
+    (c .distance-distance .ensures) (c .deref .ensures .value)) (c .put-find-found .result) (c .put-find-found .last .slots)
     (c .put-find-found .ensures .count) (c .put-find-found .ensures .front) (c .put-find-found .ensures .back)
 
 pub returns : need.returns
