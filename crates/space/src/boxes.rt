@@ -45,7 +45,7 @@ pub fn join(sets: &mut [u64], other: &[u64])
 }
 
 // The set of one letter. A byte above 63 is no letter, and its set is empty.
-fn set_of(letter: u8) -> u64
+pub fn set_of(letter: u8) -> u64
     ensures { λ r. ⌜ r ≡ only letter ⌝ }
 {
     if letter < LETTERS { 1 << letter } else { 0 }

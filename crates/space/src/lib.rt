@@ -10,6 +10,7 @@ pub use boxes::contains;
 pub use boxes::has;
 pub use boxes::join;
 pub use boxes::point;
+pub use boxes::set_of;
 pub use clip::Clip;
 pub use laws::areas_stand;
 pub use laws::around_exact_stands;

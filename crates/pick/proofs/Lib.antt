@@ -1,0 +1,4 @@
+mod Bytes
+mod Listings
+mod Checks
+mod Findings
