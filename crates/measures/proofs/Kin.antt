@@ -2,14 +2,13 @@
 use mathlib.Core.Path.{_≡_, refl, sym, ap, ap₂, _∙_}
 use mathlib.Core.Logic.{⊎-elim}
 use mathlib.Core.Bool.{Bool, true, false, cond, not, _&&_, _||_}
-use Prim.Native.Nat.{ℕ, zero, suc, _+_, _*_, _/_, _%_, _^_, _≤_, _<_}
+use Prim.Native.Nat.{ℕ, zero, suc, _*_, _/_, _%_, _^_, _≤_, _<_}
 use native.Mathlib.Nat.{pow-suc, mul-comm, one-mul, le-div-iff-mul-le}
 use native.Mathlib.Omega.{arith}
 use lib.Bits.{bitAnd, and-le-l}
-use lib.Dec.{eqb, ltb}
+use lib.Dec.{eqb}
 use Rattle.std.proofs.shelf.Bits.{div-below, pow-pos, shr-le}
 use Rattle.std.proofs.shelf.Tests.{and-parts, and-from, both-ways, or-left, or-right, cases-lt, eqb-true, eq-eqb, ne-eqb, eqb-false}
-use Rattle.std.proofs.shelf.Ways.{tells}
 use Rattle.space.specs.Boxes.{has}
 use Rattle.space.proofs.Sets.{both-has}
 use Rattle.measures.specs.Costs.{CostRule}

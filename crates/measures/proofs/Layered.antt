@@ -1,15 +1,15 @@
 -- The layers keep the floor rule.
-use mathlib.Core.Path.{_≡_, refl, sym, ap, _∙_}
+use mathlib.Core.Path.{_≡_, refl, ap, _∙_}
 use mathlib.Core.List.{List}
 use mathlib.Core.Bool.{Bool, true, false, cond, not, _&&_}
-use Prim.Native.Nat.{ℕ, _≤_}
+use Prim.Native.Nat.{ℕ}
 use native.Mathlib.Omega.{arith}
 use lib.ListN.{length}
 use Rattle.std.specs.declared.option.Option.{Option}
 use Rattle.std.specs.declared.option.Option.the-variants.{Some, None}
 use Rattle.std.proofs.shelf.Tests.{and-parts, and-from}
 use Rattle.std.proofs.shelf.Ways.{tells}
-use Rattle.space.specs.Boxes.{inBox, dimensions, words, isVector, isBox, given}
+use Rattle.space.specs.Boxes.{inBox, dimensions, words, isVector, isBox}
 use Rattle.measures.specs.Floor.{Under, Bounded, FloorRule}
 use Rattle.measures.specs.Costs.{vectors, vectorAndBox}
 use Rattle.measures.specs.Layers.{upTo, cutDistance, cutFloor, barred, spared, gap, barDistance, barFloor}

@@ -2,15 +2,11 @@
 use mathlib.Core.Path.{_≡_, refl, sym, ap, _∙_}
 use mathlib.Core.List.{List, [], _∷_}
 use mathlib.Core.Bool.{Bool, true, false, _&&_}
-use Prim.Native.Nat.{ℕ, suc, _+_, _*_, _≤_, _<_}
+use Prim.Native.Nat.{ℕ, suc, _≤_}
 use native.Mathlib.Omega.{arith}
-use lib.Dec.{eqb, leb}
 use lib.ListN.{length}
-use Rattle.std.specs.declared.option.Option.{Option}
-use Rattle.std.specs.declared.option.Option.the-variants.{Some, None}
 use Rattle.std.proofs.shelf.Tests.{and-parts}
-use Rattle.std.proofs.shelf.Ways.{tells}
-use Rattle.space.specs.Boxes.{has, inBox, dimensions, small, isVector, isBox, given}
+use Rattle.space.specs.Boxes.{has, inBox, dimensions, small, isVector, given}
 use Rattle.measures.specs.Floor.{Under, Bounded, FloorRule}
 use Rattle.measures.specs.Costs.{oneD, vectors, vectorAndBox, costs, vectorCosts, boxCosts, CostRule}
 use Rattle.measures.proofs.Sums.{vectors-parts, vector-and-box-parts, costs-most, costs-under}

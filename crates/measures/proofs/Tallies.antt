@@ -1,16 +1,16 @@
 -- Tables of numbers, and the loops that count letters into them.
-use mathlib.Core.Path.{_≡_, refl, sym, ap, ap₂, _∙_}
-use mathlib.Core.List.{List, [], _∷_}
-use mathlib.Core.Bool.{Bool, true, false, cond, not, _&&_}
+use mathlib.Core.Path.{_≡_, refl, sym, ap, _∙_}
+use mathlib.Core.List.{List, []}
+use mathlib.Core.Bool.{Bool, true, false, cond, _&&_}
 use mathlib.Core.Logic.{_⊎_, inl, inr, ⊎-elim}
 use Prim.Native.Nat.{ℕ, zero, suc, _+_, _≤_, _<_}
 use native.Mathlib.Omega.{arith}
-use lib.Dec.{eqb, ltb, leb}
+use lib.Dec.{eqb, ltb}
 use lib.ListN.{length, getD, set, replicate}
 use Rattle.std.proofs.shelf.Lists.{getD-set-same, getD-set-other, getD-replicate, getD-past, length-set}
 use Rattle.std.proofs.shelf.Tests.{eqb-true, eqb-false, eq-eqb, ne-eqb, cases-eq}
 use Rattle.std.proofs.shelf.Ways.{tells}
-use Rattle.measures.specs.Counts.{Shaped, numberAt, oneAt, countAt, ofPlan, countable}
+use Rattle.measures.specs.Counts.{Shaped, numberAt, oneAt}
 
 zero-at : (n l : ℕ) → _≡_ {A = ℕ} (getD (replicate n 0) l 0) 0
 zero-at zero l = refl

@@ -1,16 +1,15 @@
 -- Fields that are bytes.
-use mathlib.Core.Path.{_≡_, refl, sym, ap, _∙_}
+use mathlib.Core.Path.{_≡_, sym, ap, _∙_}
 use mathlib.Core.List.{List, [], _∷_}
 use mathlib.Core.Bool.{true, false, _&&_}
 use Prim.Native.Nat.{ℕ, _+_, _-_, _≤_, _<_}
-use lib.Dec.{leb}
 use lib.ListN.{length, take, drop, getD}
 use Rattle.std.proofs.shelf.Tests.{le-leb, lt-leb}
 use Rattle.space.proofs.Steps.{one-more, one-all}
 use native.Mathlib.Omega.{arith}
 use Rattle.std.specs.Options.{mapped}
 use Rattle.std.specs.declared.option.Option.{Option}
-use Rattle.std.specs.declared.option.Option.the-variants.{Some, None}
+use Rattle.std.specs.declared.option.Option.the-variants.{None}
 use Rattle.std.proofs.shelf.Lists.{take-rest}
 use Rattle.lines.specs.Faults.{Faulty}
 use Rattle.lines.specs.Fields.{fieldsOf}

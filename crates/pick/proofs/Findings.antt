@@ -1,15 +1,14 @@
 -- What the searches find.
 use mathlib.Core.Path.{_≡_, refl, sym, ap, subst, fun-ext, _∙_}
-use mathlib.Core.List.{List, [], _∷_, _++_, map}
-use mathlib.Core.Bool.{Bool, true, false, _&&_, not}
-use Prim.Native.Nat.{ℕ, zero, suc, min, _≤_, _<_}
+use mathlib.Core.List.{List, [], _∷_, map}
+use mathlib.Core.Bool.{true, false, _&&_, not}
+use Prim.Native.Nat.{ℕ, zero, suc, min, _≤_}
 use native.Mathlib.Omega.{arith}
 use lib.Dec.{leb}
 use lib.ListN.{length, take, drop}
 use Rattle.std.specs.Of.Vec.{vec-items}
 use Rattle.std.specs.Options.{isSome}
-use Rattle.std.specs.declared.option.Option.{Option}
-use Rattle.std.specs.declared.option.Option.the-variants.{Some, None}
+use Rattle.std.specs.declared.option.Option.the-variants.{None}
 use Rattle.std.proofs.shelf.Lists.{length-take, take-at}
 use Rattle.std.proofs.shelf.Tests.{and-from, not-from-false, le-leb, both-ways}
 use Rattle.space.specs.Boxes.{filled}
@@ -29,7 +28,6 @@ use Rattle.pick.specs.Answers.{Answers, askFault, graded, gehFar, gehFinds, ba
 use Rattle.pick.specs.Libraries.{sizesOf, rowsIn}
 use Rattle.pick.specs.Rows.{proper}
 use Rattle.pick.specs.declared.answer.Answer.{Answer}
-use Rattle.pick.specs.declared.answer.Graded.{Graded}
 use Rattle.pick.specs.declared.library.Library.{Library}
 use Rattle.pick.proofs.Listings.{distinct-once, proper-counted}
 

@@ -9,7 +9,7 @@ use lib.ListN.{length, drop, getD}
 use Rattle.std.specs.Options.{isSome}
 use Rattle.std.specs.declared.option.Option.the-variants.{Some, None}
 use Rattle.std.proofs.shelf.Tests.{and-parts, and-from, or-parts, or-from, not-true, not-from-false, eqb-false, ne-eqb, eq-eqb, both-ways}
-use Rattle.space.specs.Plans.{clipFault, vectorFault, planFault}
+use Rattle.space.specs.Plans.{clipFault, vectorFault}
 use Rattle.space.specs.Row.{Row, rowOf, rowsOf}
 use Rattle.space.specs.declared.clip.Clip.{Clip}
 use Rattle.space.proofs.Steps.{one-more, one-all}

@@ -1,7 +1,7 @@
 -- What a library does at each command.
 use mathlib.Core.Path.{_≡_}
 use mathlib.Core.List.{List, [], _∷_, _++_}
-use mathlib.Core.Bool.{Bool, true, false, cond, _&&_}
+use mathlib.Core.Bool.{cond, _&&_}
 use Prim.Native.Nat.{ℕ, _-_, _^_}
 use lib.Bits.{bitOr}
 use lib.Dec.{ltb, leb}

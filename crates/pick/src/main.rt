@@ -7,8 +7,6 @@ mod library;
 mod refusal;
 mod reply;
 mod session;
-#[cfg(test)]
-mod tests;
 
 use crate::command::read_command;
 use crate::refusal::RefusalDisplay;

@@ -1,7 +1,32 @@
+pub mod Alls
 pub mod Members
 pub mod Rises
 pub mod Rankings
 pub mod Hits
 pub mod Slots
+pub mod Placings
+pub mod Totals
+pub mod Reaches
+pub mod Openings
+pub mod Searches
+pub mod Walks
+pub mod Turns
+pub mod Holdings
+pub mod Risings
+pub mod Bytes
+pub mod Refused
+pub mod Files
 mod Cases
 mod Faults
+pub mod Groups
+pub mod Choices
+pub mod Builds
+pub mod Rows
+pub mod Entering
+pub mod Sizes
+pub mod Times
+pub mod Leaves
+pub mod Withdrawing
+pub mod Answered
+pub mod Runs
+pub mod RoundTrip

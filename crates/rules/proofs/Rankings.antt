@@ -34,7 +34,7 @@ pub ranking-same : Ranking-same
 ranking-same dist rows others s = ranked-same ahead ahead-order ahead-tie (finds-same dist s)
 
 -- ---- numbers that stand once
-abbrev number : Row → ℕ
+abbrev pub number : Row → ℕ
 number r = r .number
 
 abbrev clip : Find → ℕ
@@ -44,9 +44,12 @@ pub once-same : (rows others : List Row) → Same rows others → Once rows → 
 once-same rows others s once = apart-at number others (apart-same number s (apart-from-at number rows once))
 
 -- ---- rows and finds by their parts
--- a row to read past the end with; nothing turns on what it is
+-- a row and a find to read past the end with; nothing turns on what they are
 abbrev pub noRow : Row
 noRow = record { number = 0; letters = [] }
+
+abbrev pub noFind : Find
+noFind = record { distance = 0; clip = 0 }
 
 find-is : (f : Find) (n : ℕ) → n ≡ f .clip → _≡_ {A = Find} (record { distance = f .distance; clip = n }) f
 find-is f n e = ap (λ m. let g : Find = record { distance = f .distance; clip = m } in g) e
@@ -70,7 +73,7 @@ module _ (dist : Row → Option ℕ) where
 
   pub ranking-rises : (rows : List Row) → Once rows → Rises ahead (ranking dist rows)
   ranking-rises rows once =
-      rises-from-rank ahead ahead-tie clip (ranking dist rows) (ranked-in-rank ahead ahead-order (findsOf dist rows))
+      rises-from-rank ahead clip (λ x y p q. ap clip (ahead-tie x y p q)) (ranking dist rows) (ranked-in-rank ahead ahead-order (findsOf dist rows))
       (apart-same clip (ranked-holds ahead (findsOf dist rows)) (finds-apart rows (apart-from-at number rows once)))
 
   -- ---- each find comes from a row
@@ -133,12 +136,9 @@ ranking-first dist rows k once =
 
 pub ranking-only : Ranking-only
 ranking-only dist rows k once finds first =
-    front-only ahead ahead-order k finds (ranking dist rows) (rises-from-at ahead bare finds (first .rises)) (ranking-rises dist rows once)
-    (all-from-getD (Has (ranking dist rows)) finds bare (λ i l. ranking-has dist rows (getD finds i bare) (first .known i bare l))) ors (first .most)
+    front-only ahead ahead-order k finds (ranking dist rows) (rises-from-at ahead noFind finds (first .rises)) (ranking-rises dist rows once)
+    (all-from-getD (Has (ranking dist rows)) finds noFind (λ i l. ranking-has dist rows (getD finds i noFind) (first .known i noFind l))) ors (first .most)
   where
-    bare : Find
-    bare = record { distance = 0; clip = 0 }
-
     ors : (f : Find) → Has (ranking dist rows) f → OrBehind ahead k finds f
     ors f m =
         let c : Comes dist rows f = all-has (Comes dist rows) (ranking dist rows) f (ranking-comes dist rows) m in
@@ -147,5 +147,5 @@ ranking-only dist rows k once finds first =
         subst (OrBehind ahead k finds) (find-is f n (c .2 noRow .0))
         (elim (first .rest (c .0) noRow (f .distance) (c .1) (c .2 noRow .1)) [
           | inl s ↦ inl (stands-has new finds s)
-          | inr b ↦ inr (b .0, all-from-getD (λ y. ahead y new ≡ true) finds bare (λ i l. b .1 i bare l))
+          | inr b ↦ inr (b .0, all-from-getD (λ y. ahead y new ≡ true) finds noFind (λ i l. b .1 i noFind l))
         ])

@@ -1,7 +1,7 @@
 -- Lists that rise: each element stands before every one to its right.
-use mathlib.Core.Path.{_≡_, refl, sym, ap, ap₂, subst}
+use mathlib.Core.Path.{_≡_, refl, sym, ap, ap₂, subst, _∙_}
 use mathlib.Core.List.{List, [], _∷_}
-use mathlib.Core.Bool.{Bool, true, false}
+use mathlib.Core.Bool.{Bool, true, false, cond}
 use mathlib.Core.Logic.{_⊎_, inl, inr}
 use Prim.Native.Nat.{ℕ, zero, suc, _≤_, _<_}
 use native.Mathlib.Omega.{arith}
@@ -9,7 +9,7 @@ use lib.ListN.{length, getD, take}
 use Rattle.std.specs.shelf.Lists.{All, Has}
 use Rattle.std.proofs.shelf.Elements.{all-getD, all-from-getD, all-take, all-has}
 use Rattle.std.proofs.shelf.Tests.{both-ways}
-use Rattle.ranked.specs.Rank.{Order, Tie, InRank}
+use Rattle.ranked.specs.Rank.{Order, InRank, place, ranked}
 use Rattle.ranked.proofs.Ranks.{not-self}
 use Rattle.rules.proofs.Members.{has-first, has-later, has-cases, has-none, Apart}
 
@@ -36,18 +36,28 @@ module _ {X : Type 0} (before : X → X → Bool) where
   rises-take (suc n) [] r = tt
   rises-take (suc n) (x ∷ xs) r = (all-take (λ y. before x y ≡ true) n xs (r .0), rises-take n xs (r .1))
 
-  -- a list in rank rises where no two elements have one key
-  pub rises-from-rank : Tie before → (key : X → ℕ) (xs : List X) → InRank before xs → Apart key xs → Rises before xs
-  rises-from-rank tie key [] r a = tt
-  rises-from-rank tie key (x ∷ xs) r a = (go xs (r .0) (a .0), rises-from-rank tie key xs (r .1) (a .1))
+  -- a list in rank rises where two that tie have one key, and no two elements have one key
+  pub rises-from-rank : (key : X → ℕ) → ((x y : X) → before x y ≡ false → before y x ≡ false → key x ≡ key y)
+      → (xs : List X) → InRank before xs → Apart key xs → Rises before xs
+  rises-from-rank key tie [] r a = tt
+  rises-from-rank key tie (x ∷ xs) r a = (go xs (r .0) (a .0), rises-from-rank key tie xs (r .1) (a .1))
     where
       one : (y : X) → before y x ≡ false → (key x ≡ key y → ⊥) → (t : Bool) → before x y ≡ t → before x y ≡ true
       one y p q true e = e
-      one y p q false e = absurd (q (ap key (tie x y e p)))
+      one y p q false e = absurd (q (tie x y e p))
 
       go : (ys : List X) → All (λ y. before y x ≡ false) ys → All (λ y. key x ≡ key y → ⊥) ys → All (λ y. before x y ≡ true) ys
       go [] p q = tt
       go (y ∷ ys) p q = (one y (p .0) (q .0) (before x y) refl, go ys (p .1) (q .1))
+
+  -- a list that rises is its own ranking
+  pub rises-is : (xs : List X) → Rises before xs → ranked before xs ≡ xs
+  rises-is [] r = refl
+  rises-is (x ∷ xs) r = ap (place before x) (rises-is xs (r .1)) ∙ front xs (r .0)
+    where
+      front : (ys : List X) → All (λ y. before x y ≡ true) ys → place before x ys ≡ x ∷ ys
+      front [] a = refl
+      front (y ∷ ys) a = ap (λ t. cond t (x ∷ y ∷ ys) (y ∷ place before x ys)) (a .0)
 
   -- y stands in the list, or behind a list of k elements
   abbrev pub OrBehind : ℕ → List X → X → Type 0

@@ -1,7 +1,8 @@
 -- Which entry of an inner box a new vector goes to.
+use mathlib.Core.Path.{_≡_}
 use mathlib.Core.List.{List, [], _∷_}
 use mathlib.Core.Bool.{Bool, true, false, cond}
-use Prim.Native.Nat.{ℕ, zero, suc, _+_, _-_}
+use Prim.Native.Nat.{ℕ, zero, suc, _+_, _-_, _<_}
 use lib.Dec.{eqb, ltb}
 use lib.ListN.{length, getD}
 use Rattle.space.specs.Boxes.{area, common, join, point}
@@ -40,3 +41,9 @@ growth boxes v p =
 -- least growth of common area, then least growth of area, then least area before, then first position
 abbrev pub chosen : List (List ℕ) → List ℕ → ℕ
 chosen boxes v = firstLeast (growth boxes v) (length boxes)
+
+-- The same as a relation: the entry at p is one of them, none has a smaller growth, and those before it have a greater.
+pub record Chosen (boxes : List (List ℕ)) (v : List ℕ) (p : ℕ) : Type 0 where
+  pub one : p < length boxes
+  pub least : (i : ℕ) → i < length boxes → less (growth boxes v i) (growth boxes v p) ≡ false
+  pub first : (i : ℕ) → i < p → less (growth boxes v p) (growth boxes v i) ≡ true

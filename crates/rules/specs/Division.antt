@@ -1,8 +1,9 @@
 -- How nine entries are divided into two groups.
 -- A division is named by its code: the sum of 2 ^ (p - 1) over the positions p of the second group.
+use mathlib.Core.Path.{_≡_}
 use mathlib.Core.List.{List, [], _∷_}
 use mathlib.Core.Bool.{Bool, true, false, cond, _&&_, not}
-use Prim.Native.Nat.{ℕ, zero, suc, _+_, _/_, _%_}
+use Prim.Native.Nat.{ℕ, zero, suc, _+_, _/_, _%_, _<_}
 use lib.Dec.{eqb, leb}
 use lib.Count.{ones}
 use Rattle.space.specs.Boxes.{area, common, around, has}
@@ -37,3 +38,9 @@ bestBelow d boxes (suc n) =
 -- least common area, then least sum of areas, then least code
 abbrev pub division : ℕ → List (List ℕ) → ℕ
 division d boxes = bestBelow d boxes 512
+
+-- The same as a relation: the code divides, and no code that divides has a smaller common area, then sum of areas, then code.
+pub record Divided (d : ℕ) (boxes : List (List ℕ)) (code : ℕ) : Type 0 where
+  pub below : code < 512
+  pub two : divides code ≡ true
+  pub least : (other : ℕ) → other < 512 → divides other ≡ true → less (parting d boxes other) (parting d boxes code) ≡ false

@@ -1,9 +1,9 @@
--- The numbered refusals: which plan, vector or clip is refused with which. Checks run in the order of the numbers, and the first that fits is
--- answered.
+-- The numbered refusals: which call is refused with which. Checks run in the order of the numbers, and the first that fits is answered; on a void
+-- catalogue 20 comes before all.
 use mathlib.Core.Path.{_≡_}
 use mathlib.Core.List.{List, [], _∷_}
-use mathlib.Core.Bool.{Bool, true, false, cond, _&&_, not}
-use Prim.Native.Nat.{ℕ, zero, suc}
+use mathlib.Core.Bool.{Bool, cond, _&&_, not}
+use Prim.Native.Nat.{ℕ, suc, _*_, _/_, max}
 use lib.Dec.{eqb, ltb, leb}
 use lib.ListN.{length}
 use Rattle.std.specs.Options.{mapped}
@@ -11,6 +11,8 @@ use Rattle.std.specs.declared.option.Option.{Option}
 use Rattle.std.specs.declared.option.Option.the-variants.{Some, None}
 use Rattle.space.specs.Boxes.{dimensions}
 use Rattle.space.specs.Plans.{planFault, vectorFault, clipFault, planNumber, planPlace, clipNumber, clipPlace}
+use Rattle.space.specs.Row.{Row}
+use Rattle.rules.specs.Rows.{lists}
 use Rattle.space.specs.declared.plan.PlanFault.{PlanFault}
 use Rattle.space.specs.declared.plan.ClipFault.{ClipFault}
 
@@ -58,6 +60,42 @@ ofVector plan v = when (not (eqb (length v) (length plan))) 8 else whenAt 9 (bad
 -- 7: a clip's number is 0
 abbrev pub ofClip : List ℕ → ℕ → List ℕ → Option Refusal
 ofClip plan n v = when (eqb n 0) 7 else ofVector plan v
+
+-- 2: the capacity is out of limits; 3: the table is too short
+abbrev pub ofFit : List ℕ → ℕ → ℕ → Option Refusal
+ofFit plan capacity boxes =
+    ofSizes plan
+    else when (not (leb 1 capacity && leb capacity 4096)) 2
+    else when (ltb boxes (max 1 (capacity / 2))) 3
+
+-- 21: the clip is listed already; 23: the capacity is used up
+abbrev pub ofEnter : List ℕ → ℕ → List Row → ℕ → List ℕ → Option Refusal
+ofEnter plan capacity rows n v = ofClip plan n v else when (lists n rows) 21 else when (leb capacity (length rows)) 23
+
+-- 22: the clip is not listed; 24: the worklist has fewer words than twice the listed clips
+abbrev pub ofWithdraw : List Row → ℕ → ℕ → Option Refusal
+ofWithdraw rows n words = when (eqb n 0) 7 else when (not (lists n rows)) 22 else when (ltb words (2 * length rows)) 24
+
+-- 24: the worklist has fewer words than there are boxes
+abbrev pub ofWithin : List ℕ → List ℕ → ℕ → ℕ → Option Refusal
+ofWithin plan v boxes words = ofVector plan v else when (ltb words boxes) 24
+
+-- 10: k is 0, above 64 or above the slots
+abbrev pub ofNearest : List ℕ → List ℕ → ℕ → ℕ → ℕ → ℕ → Option Refusal
+ofNearest plan v k slots boxes words =
+    ofVector plan v else when (not (leb 1 k && (leb k 64 && leb k slots))) 10 else when (ltb words boxes) 24
+
+-- 26: nothing is listed
+abbrev pub ofCount : List Row → Option Refusal
+ofCount rows = when (eqb (length rows) 0) 26
+
+-- 27: the output is too short for what is to be written
+abbrev pub ofSave : ℕ → ℕ → Option Refusal
+ofSave needed room = when (ltb room needed) 27
+
+-- the layers: 1 plan, 2 file, 3 clip, 4 search, 5 catalogue
+abbrev pub layerOf : ℕ → ℕ
+layerOf n = cond (leb n 3) 1 (cond (leb n 6) 2 (cond (leb n 9) 3 (cond (leb n 10) 4 5)))
 
 -- what the faults that a program tells stand for
 abbrev pub planRefusal : PlanFault → Refusal

@@ -1,10 +1,8 @@
 -- Worked cases, as one table.
 use mathlib.Core.Path.{_≡_}
 use mathlib.Core.List.{List, [], _∷_}
-use Prim.Native.Nat.{ℕ, zero, suc}
-use Rattle.std.specs.declared.option.Option.{Option}
+use Prim.Native.Nat.{ℕ}
 use Rattle.std.specs.declared.option.Option.the-variants.{Some, None}
-use Rattle.ranked.specs.declared.find.Find.{Find}
 use Rattle.space.specs.Boxes.{areaOf, commonOf}
 use Rattle.space.specs.Row.{Row}
 use Rattle.measures.specs.Hammings.{hammingDistance, hammingFloor}

@@ -1,16 +1,16 @@
 -- The first fault of a plan or a vector.
-use mathlib.Core.Path.{_≡_, refl, sym, ap, ap₂, _∙_}
+use mathlib.Core.Path.{_≡_, sym, ap, _∙_}
 use mathlib.Core.Bool.{cond, _&&_}
-use Prim.Native.Nat.{ℕ, suc, _+_, _≤_, _<_}
+use Prim.Native.Nat.{ℕ, _+_, _<_}
 use native.Mathlib.Numerals.{add-one}
 use lib.Dec.{ltb, leb}
 use lib.ListN.{length, drop, getD}
-use mathlib.Core.List.{List, [], _∷_}
-use Rattle.std.specs.declared.option.Option.the-variants.{Some, None}
+use mathlib.Core.List.{List}
+use Rattle.std.specs.declared.option.Option.the-variants.{Some}
 use Rattle.space.specs.Plans.{sizeFault, letterFault}
 use Rattle.space.specs.declared.plan.PlanFault.the-variants.{Size}
 use Rattle.space.specs.declared.plan.ClipFault.the-variants.{Letter}
-use Rattle.space.proofs.Steps.{one-more, one-all, two-more, two-all}
+use Rattle.space.proofs.Steps.{one-more, two-more}
 
 pub size-more : (s : List ℕ) (i : ℕ) → i < length s
     → sizeFault (i + 1) (drop i s) ≡ cond (leb 1 (getD s i 0) && leb (getD s i 0) 64) (sizeFault (i + 1 + 1) (drop (i + 1) s)) (Some (Size (i + 1)))

@@ -3,3 +3,5 @@ pub mod Sets
 pub mod Areas
 pub mod Arounds
 pub mod Faults
+pub mod Growth
+pub mod Words

@@ -1,5 +1,5 @@
 -- The steps of loops that go through one list or two side by side, and of loops that write a list in place.
-use mathlib.Core.Path.{_≡_, refl, sym, ap, ap₂, _∙_}
+use mathlib.Core.Path.{_≡_, sym, ap, ap₂, _∙_}
 use mathlib.Core.List.{List, [], _∷_, _++_}
 use Prim.Native.Nat.{ℕ, _+_, _≤_, _<_, min}
 use mathlib.Core.Logic.{_⊎_, inl, inr, ⊎-elim}

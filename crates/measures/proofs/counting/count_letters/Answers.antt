@@ -1,9 +1,6 @@
 use native.Mathlib.Omega.{arith}
-use Prim.Native.Nat.{_≤_, _<_}
-use lib.ListN.{getD}
-use Rattle.measures.specs.Counts.{numberAt}
 use Rattle.measures.proofs.Sums.{small-at}
-use Rattle.measures.proofs.Tallies.{tallied-none, tallied-more, tallied-all, tallied-fits}
+use Rattle.measures.proofs.Tallies.{tallied-none, tallied-more, tallied-all}
 use Rattle.measures.proofs.counting.count_letters.Needs as need
 
 pub index-numbers-letter : need.index-numbers-letter

@@ -1,4 +1,3 @@
-use mathlib.Core.Path.{refl}
 use Rattle.measures.proofs.Tallies.{zeros-at, zeros-shape}
 use Rattle.measures.proofs.counting.no_numbers.Needs as need
 

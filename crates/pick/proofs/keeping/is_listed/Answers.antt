@@ -1,4 +1,4 @@
-use mathlib.Core.Path.{_≡_, sym, _∙_}
+use mathlib.Core.Path.{sym, _∙_}
 use native.Mathlib.Omega.{arith}
 use Rattle.pick.proofs.Listings.{listed-more, listed-here, listed-none}
 use Rattle.pick.proofs.keeping.is_listed.Needs as need

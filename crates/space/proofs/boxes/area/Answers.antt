@@ -1,10 +1,9 @@
 use mathlib.Core.Path.{_≡_, sym, ap, _∙_}
 use Prim.Native.Nat.{_+_, _*_, _^_, _≤_, _<_}
 use native.Mathlib.Omega.{arith}
-use lib.Count.{ones, ones-le}
+use lib.Count.{ones-le}
 use lib.ListN.{length, drop, getD}
 use Rattle.std.specs.declared.option.Option.the-variants.{Some}
-use Rattle.std.proofs.shelf.Ways.{tells}
 use Rattle.space.specs.Boxes.{area, given}
 use Rattle.space.proofs.Areas.{dimensions-most, power-more, power-fits, area-more, area-all}
 use Rattle.space.proofs.boxes.area.Needs as need

@@ -1,14 +1,7 @@
-use mathlib.Core.Path.{_≡_, sym, ap, _∙_}
-use mathlib.Core.Bool.{true, _&&_}
-use Prim.Native.Nat.{ℕ, _+_, _*_, _^_, _≤_, _<_}
+use mathlib.Core.Path.{sym, _∙_}
+use Prim.Native.Nat.{_+_, _*_, _^_, _≤_, _<_}
 use native.Mathlib.Omega.{arith}
-use lib.Bits.{bitAnd}
-use lib.Count.{ones, ones-le}
-use lib.Dec.{eqb}
-use lib.ListN.{length, drop, getD}
-use Rattle.std.specs.declared.option.Option.the-variants.{Some}
-use Rattle.std.proofs.shelf.Tests.{eq-eqb, and-from}
-use Rattle.space.specs.Boxes.{common, given, dimensions, commonOf}
+use lib.ListN.{length, getD}
 use Rattle.space.proofs.Areas.{dimensions-most, power-more, power-fits, common-none, common-more, common-all, common-few, common-given}
 use Rattle.space.proofs.boxes.common_area.Needs as need
 

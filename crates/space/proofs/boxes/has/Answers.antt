@@ -1,5 +1,5 @@
 use native.Mathlib.Omega.{arith}
-use mathlib.Core.Path.{_≡_, sym, _∙_}
+use mathlib.Core.Path.{sym, _∙_}
 use Rattle.std.proofs.shelf.Tests.{le-ltb}
 use Rattle.space.proofs.Sets.{has-shift, has-above}
 use Rattle.space.proofs.boxes.has.Needs as need

@@ -1,13 +1,11 @@
-use mathlib.Core.Path.{_≡_, refl, sym, ap, _∙_}
-use mathlib.Core.Bool.{true, false, _&&_}
-use Prim.Native.Nat.{_≤_, _+_}
+use mathlib.Core.Path.{refl, sym, ap, _∙_}
+use mathlib.Core.Bool.{true, false}
+use Prim.Native.Nat.{_+_}
 use native.Mathlib.Omega.{arith}
 use lib.ListN.{length}
 use Rattle.std.specs.Of.Vec.{vec-items}
-use Rattle.std.specs.declared.option.Option.the-variants.{None}
 use Rattle.std.proofs.shelf.Tests.{and-from}
 use Rattle.space.specs.Boxes.{dimensions, small}
-use Rattle.space.specs.Plans.{planFault, vectorFault}
 use Rattle.space.specs.Row.{rowsOf}
 use Rattle.measures.specs.Counts.{numberAt, oneAt, limits, ofPlan}
 use Rattle.measures.proofs.Countings.{limits-parts, limits-rows, not-limits, not-plan, fault-some, fault-none, vector-small, plan-dimensions, count-most, counted-none, counted-few, counted-stop, counted-more, counted-all, length-rows}

@@ -1,4 +1,3 @@
-use Rattle.space.specs.Row.{rowsOf}
 use Rattle.measures.proofs.Countings.{Counted-so-far}
 use Rattle.measures.proofs.count.Count.of.Given as given
 
