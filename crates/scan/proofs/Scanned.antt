@@ -1,5 +1,5 @@
 -- The loop over the clips.
-use mathlib.Core.Path.{_≡_, refl, sym, ap, ap₂, _∙_}
+use mathlib.Core.Path.{_≡_, refl, sym, ap, ap₂, subst, _∙_}
 use mathlib.Core.List.{List, [], _∷_, _++_}
 use mathlib.Core.Logic.{⊎-elim}
 use Prim.Native.Nat.{ℕ, _+_, _≤_, _<_, min}
@@ -14,7 +14,10 @@ use Rattle.ranked.specs.Find.{ahead}
 use Rattle.ranked.specs.Rank.{place, ranked, keepFirst}
 use Rattle.ranked.proofs.Finds.{ahead-order, ahead-tie}
 use Rattle.ranked.proofs.Ranks.{length-ranked, keep-first-append, keep-first-is}
-use Rattle.rules.specs.Finds.{hit, findsOf, ranking}
+use Rattle.rules.specs.Finds.{hit, findsOf, ranking, within, FirstOf}
+use Rattle.rules.proofs.Hits.{hits-counted}
+use Rattle.rules.proofs.Rankings.{ranking-first}
+use Rattle.scan.specs.Distances.{Nearest, Hits}
 use Rattle.space.specs.Boxes.{filled}
 use Rattle.space.specs.Row.{Row, rowOf, rowsOf}
 use Rattle.space.specs.declared.clip.Clip.{Clip}
@@ -95,3 +98,26 @@ put-back s t n r e c h =
 -- an answer about what a call was lent, told of what it was lent from
 pub told : {X Y : Type 0} (f : X → Y) (o : Y) (w v : X) → o ≡ f w → w ≡ v → o ≡ f v
 told f o w v e h = e ∙ ap f h
+
+-- what the searches tell after all clips
+pub nearest-done : (dist : Row → Option ℕ) (clips : List Clip) (slots s : List Find) (n k : ℕ) → Scanned dist clips slots s n k → length clips ≤ k
+    → length s ≡ length slots → (r : ℕ) → r ≡ min n (length slots) → Nearest dist (rowsOf clips) slots s r
+nearest-done dist clips slots s n k so-far over long r is =
+    let count = scanned-count dist clips slots s n k so-far over in
+    let front = scanned-front dist clips slots s n k so-far over in
+    record {
+      finds = scanned-slots dist clips slots s n k so-far over;
+      count = is ∙ ap (λ m. min m (length slots)) count;
+      first = λ once. subst (FirstOf dist (rowsOf clips) (length slots)) (sym (ap (λ j. take j s) is ∙ take-min s n (length slots) long ∙ front))
+          (ranking-first dist (rowsOf clips) (length slots) once);
+    }
+
+pub hits-done : (dist : Row → Option ℕ) (radius : ℕ) (clips : List Clip) (slots s : List Find) (n k : ℕ) → Scanned (within dist radius) clips slots s n k
+    → length clips ≤ k → Hits dist radius (rowsOf clips) slots s n
+hits-done dist radius clips slots s n k so-far over =
+    let front = scanned-front (within dist radius) clips slots s n k so-far over in
+    record {
+      finds = scanned-slots (within dist radius) clips slots s n k so-far over;
+      count = scanned-count (within dist radius) clips slots s n k so-far over ∙ hits-counted dist radius (rowsOf clips);
+      first = λ once. subst (FirstOf (within dist radius) (rowsOf clips) (length slots)) (sym front) (ranking-first (within dist radius) (rowsOf clips) (length slots) once);
+    }
