@@ -1,4 +1,6 @@
 // A catalogue of clips: start, enter, withdraw, load, save and count, each proved to keep the promise over every run of calls.
+#![tactic(auto)]
+
 mod call;
 mod catalogue;
 mod changing;

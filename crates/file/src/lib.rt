@@ -1,4 +1,6 @@
 // The file of a catalogue: its bytes are checked, read row by row, and written.
+#![tactic(auto)]
+
 mod check;
 mod fault;
 mod laws;

@@ -1,4 +1,6 @@
 // Lines of text, and the fields of a line: numbers in base ten, one space before each.
+#![tactic(auto)]
+
 mod cut;
 mod fields;
 mod laws;

@@ -55,7 +55,7 @@ pub(crate) fn are_vector_and_box(query: &[u8], sets: &[u64]) -> bool
 
 // The cost of a vector beside the query; none of anything but two vectors of one d.
 pub(crate) fn vector_cost<C: Cost>(cost: &C, query: &[u8], vector: &[u8]) -> Option<u32>
-    ensures { result ≡ vector_costs (letter_costs cost.now) query.now vector.now }
+    ensures { result ≡ vector_costs (C.letter_costs cost.now) query.now vector.now }
 {
     if !are_vectors(query, vector) {
         return None;
@@ -69,7 +69,7 @@ pub(crate) fn vector_cost<C: Cost>(cost: &C, query: &[u8], vector: &[u8]) -> Opt
 
 // The cost of a box beside the query; none of anything but a vector and a box of one d.
 pub(crate) fn box_cost<C: Cost>(cost: &C, query: &[u8], sets: &[u64]) -> Option<u32>
-    ensures { result ≡ box_costs (set_costs cost.now) query.now sets.now }
+    ensures { result ≡ box_costs (C.set_costs cost.now) query.now sets.now }
 {
     if !are_vector_and_box(query, sets) {
         return None;

@@ -1,4 +1,6 @@
 // Measures: how far a clip lies from a query, and how near a clip of a box can lie.
+#![tactic(auto)]
+
 mod bar;
 mod cost;
 mod count;

@@ -1,4 +1,6 @@
 // Reads a library of clips and queries from standard input, line by line, and answers each line.
+#![tactic(auto)]
+
 mod answer;
 mod asking;
 mod command;

@@ -1,4 +1,6 @@
 // Entries kept in rank at the front of a lent slice. What has an order is `Ranked`; numbers and finds are.
+#![tactic(auto)]
+
 mod find;
 mod list;
 mod order;

@@ -8,7 +8,7 @@ use crate::order::Ranked;
 
 // How many elements stand to the left of the item's place.
 fn rank<T: Ranked>(list: &[T], item: &T) -> usize
-    ensures { result ≡ rank_of before item.now list.now }
+    ensures { result ≡ rank_of T.before item.now list.now }
 {
     for (i, x) in list.iter().enumerate() {
         if item.precedes(x) {
@@ -36,10 +36,10 @@ fn put<T: Copy>(list: &mut [T], at: usize, end: usize, item: T)
 // A full list gives up its last. If the list was in rank, it then has the first of its own and the item together, and is in rank.
 pub fn insert<T: Ranked>(list: &mut [T], len: usize, item: T) -> usize
     ensures count { result ≡ min (len + 1) (length list.old) }
-    ensures front { take result list.new ≡ take (length list.old) (place before item (take len list.old)) }
+    ensures front { take result list.new ≡ take (length list.old) (place T.before item (take len list.old)) }
     ensures back { drop result list.new ≡ drop result list.old }
-    ensures first { InRank before (take len list.old) → take result list.new ≡ take (length list.old) (ranked before (item ∷ take len list.old)) }
-    ensures stays { InRank before (take len list.old) → InRank before (take result list.new) }
+    ensures first { InRank T.before (take len list.old) → take result list.new ≡ take (length list.old) (ranked T.before (item ∷ take len list.old)) }
+    ensures stays { InRank T.before (take len list.old) → InRank T.before (take result list.new) }
 {
     let held = len.min(list.len());
     let at = rank(&list[0..held], &item);
@@ -51,10 +51,10 @@ pub fn insert<T: Ranked>(list: &mut [T], len: usize, item: T) -> usize
 // Inserts the items one after another. If the list was in rank, it then has the first of its own and all the items together.
 pub fn insert_all<T: Ranked>(list: &mut [T], len: usize, items: &[T]) -> usize
     ensures count { result ≡ min (len + length items.now) (length list.old) }
-    ensures front { take result list.new ≡ keep_first before (length list.old) (take len list.old) items.now }
+    ensures front { take result list.new ≡ keep_first T.before (length list.old) (take len list.old) items.now }
     ensures back { drop result list.new ≡ drop result list.old }
-    ensures first { InRank before (take len list.old) → take result list.new ≡ take (length list.old) (ranked before (items.now ++ take len list.old)) }
-    ensures stays { InRank before (take len list.old) → InRank before (take result list.new) }
+    ensures first { InRank T.before (take len list.old) → take result list.new ≡ take (length list.old) (ranked T.before (items.now ++ take len list.old)) }
+    ensures stays { InRank T.before (take len list.old) → InRank T.before (take result list.new) }
 {
     let mut held = len.min(list.len());
     for item in items {
@@ -66,7 +66,7 @@ pub fn insert_all<T: Ranked>(list: &mut [T], len: usize, items: &[T]) -> usize
 // The ranking of a list is the one list in rank with its elements, and a list that is cut off at each insertion keeps just its front,
 // whatever order the entries come in.
 pub fn ranking_stands<T: Ranked>() -> u8
-    ensures { RankingStands before }
+    ensures { RankingStands T.before }
 {
     0
 }
@@ -75,5 +75,5 @@ pub fn ranking_stands<T: Ranked>() -> u8
 pub fn sort_words(list: &mut [u64])
     ensures { list.new ≡ ranked nat_lt list.old }
 {
-    list.sort();
+    list.sort_unstable();
 }

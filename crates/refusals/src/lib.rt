@@ -1,4 +1,6 @@
 // The numbered refusals of a catalogue's calls.
+#![tactic(auto)]
+
 mod fault;
 mod laws;
 mod refusal;

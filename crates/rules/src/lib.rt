@@ -1,4 +1,6 @@
 // The rules of a catalogue, as definitions, and the laws that hold of them.
+#![tactic(auto)]
+
 mod file_laws;
 mod laws;
 mod run_laws;

@@ -1,5 +1,7 @@
 // A search over a plain list of clips, one after the other: the simplest thing that answers by the rules, and what the index is tested
 // beside.
+#![tactic(auto)]
+
 ghost use Rattle.std.specs.Prelude.{◌≡◌, ◌+◌, ◌^◌, ◌<◌, length, take, drop};
 ghost use Rattle.ranked.specs.Find.{ahead};
 ghost use Rattle.ranked.specs.Rank.{keep_first};

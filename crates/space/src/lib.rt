@@ -1,4 +1,6 @@
 // Letters, sets, boxes, plans and clips: the space in which clips are described.
+#![tactic(auto)]
+
 mod boxes;
 mod clip;
 mod described;

@@ -1,4 +1,6 @@
 // The tree of a catalogue in a table of boxes.
+#![tactic(auto)]
+
 mod again;
 mod aside;
 mod calls;

@@ -19,5 +19,5 @@ returns-in-32-to-39 c = mask_akin 0xff00000000 3 refl c.args.letter (grind (arit
 pub returns-in-40-to-55 : goal.returns-in-40-to-55
 returns-in-40-to-55 c = mask_akin 0xffff0000000000 4 refl c.args.letter (grind (arith, nat_tests))
 
-pub returns-in-default : goal.returns-in-default
-returns-in-default c = mask_akin 0xff00000000000000 5 refl c.args.letter (grind (arith, nat_tests))
+pub returns-in_default : goal.returns-in_default
+returns-in_default c = mask_akin 0xff00000000000000 5 refl c.args.letter (grind (arith, nat_tests))

@@ -9,8 +9,8 @@ put-requires g c =
     let end : c.if-held-list.end ≡ min (c.min-held.result + 1) (length c.args.list.now) =
     elim c.if-held-list.branch [ then-held-list w ↦ omega (arith, w.end-is) | else-held-list w ↦ omega (arith, w.end-is) ] in
     let fits =
-    insert_fits g.T.Ranked.before c.args.list.now c.min-held.result c.rank_at.result c.if-held-list.end c.args.item
-    (omega arith) c.rank_at.ensures end in
+    insert_fits g.T.Ranked.before c.args.list.now c.min-held.result c.rank-at.result c.if-held-list.end c.args.item
+    (omega arith) c.rank-at.ensures end in
     (omega arith, omega arith)
 
 pub returns : goal.returns
@@ -18,13 +18,13 @@ returns g c =
     let before = g.T.Ranked.before in
     let l = c.args.list.now in
     let s = c.put.new.list in
-    let at = c.rank_at.result in
+    let at = c.rank-at.result in
     let end = c.if-held-list.end in
     let held-is : c.min-held.result ≡ min c.args.len (length l) = omega arith in
     let end_is : end ≡ min (c.min-held.result + 1) (length l) =
     elim c.if-held-list.branch [ then-held-list w ↦ omega (arith, w.end-is) | else-held-list w ↦ omega (arith, w.end-is) ] in
     let put : take end s ≡ take end (insert l at c.args.item) = cc c.put.ensures.front in
-    let front = insert_front before l s c.args.len c.min-held.result at end c.args.item held-is c.rank_at.ensures end_is put in
+    let front = insert_front before l s c.args.len c.min-held.result at end c.args.item held-is c.rank-at.ensures end_is put in
     let law = g.met.T.Ranked in
     record {
       count = omega arith;

@@ -10,5 +10,5 @@ numbers = record { one_way = λ x y h. grind (arith, nat_tests); chain = λ x y 
 
 pub returns : goal.returns
 returns c =
-    sorted_is numbers c.args.list.now c.sort.new.self c.sort.ensures.permutation
-    (IsNonDecreasingBy-from_sort (λ x. x) c.sort.new.self (length c.args.list.now) c.sort.ensures.len c.sort.ensures.sorted)
+    sorted_is numbers c.args.list.now c.sort_unstable.new.self c.sort_unstable.ensures.permutation
+    (IsNonDecreasingBy-from_sort (λ x. x) c.sort_unstable.new.self c.sort_unstable.ensures.sorted)

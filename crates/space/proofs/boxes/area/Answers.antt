@@ -7,13 +7,13 @@ use Rattle.space.proofs.boxes.area.Goals as goal
 -- the product of one dimension more is within its bound
 next_most : (c : goal.After-from-product) → c.loop-set.product * c.from-product.result ≤ 64 ^ (c.loop-set.set-index + 1)
 next_most c =
-    let fits : get_or c.args.sets.now c.loop-set.set-index 0 < 2 ^ 64 = omega (arith, c.type-inv.sets c.loop-set.set-index) in
+    let fits : get_or c.args.sets.now c.loop-set.set-index 0 < 2 ^ 64 = omega (arith, c.type_inv.sets c.loop-set.set-index) in
     let k = ones-le 64 (get_or c.args.sets.now c.loop-set.set-index 0) fits in
     power_more c.loop-set.product c.from-product.result c.loop-set.set-index c.loop-set.invariant.1 (omega (arith, c.from-product.ensures))
 
-pub overflow-mul-product : goal.overflow-mul-product
-overflow-mul-product c =
-    let d = dimensions_most (length c.args.sets.now) (sym c.if-not-is-dimensions.ensures) in
+pub overflow_mul-product : goal.overflow_mul-product
+overflow_mul-product c =
+    let d = dimensions_most (length c.args.sets.now) (sym c.if-not-is_dimensions.ensures) in
     let p = power_fits (c.loop-set.product * c.from-product.result) (c.loop-set.set-index + 1) (next_most c) (omega arith) in
     omega arith
 
@@ -33,4 +33,4 @@ returns c =
     let e : c.loop-set.product ≡ area b = sym (area_all c.loop-set.product i b (omega arith)) ∙ c.loop-set.invariant.0 in
     let n : i ≡ length b = omega arith in
     let most = c.loop-set.invariant.1 in
-    record { value = ap Some e ∙ ap (λ t. given t (area b)) c.if-not-is-dimensions.ensures; most = rw n at most }
+    record { value = ap Some e ∙ ap (λ t. given t (area b)) c.if-not-is_dimensions.ensures; most = rw n at most }

@@ -10,8 +10,8 @@ loop-i-preserved c =
     let old = c.args.sets.now in
     let vector = c.args.vector.now in
     let i = c.loop-i.i in
-    over_more pointed old vector c.loop-i.sets i c.loop-i.invariant c.set-of.result (omega arith) (omega arith) (omega arith)
-    (ap (λ m. m ∷ pointed (drop (i + 1) old) (drop (i + 1) vector)) (sym c.set-of.ensures))
+    over_more pointed old vector c.loop-i.sets i c.loop-i.invariant c.set_of.result (omega arith) (omega arith) (omega arith)
+    (ap (λ m. m ∷ pointed (drop (i + 1) old) (drop (i + 1) vector)) (sym c.set_of.ensures))
 
 pub returns : goal.returns
 returns c =

@@ -5,33 +5,33 @@ use Rattle.measures.specs.Counts.{limits, of_plan}
 use Rattle.measures.proofs.Countings.{limits_parts, limits_rows, not_limits, not_plan, fault_some, fault_none, vector_small, plan_dimensions, count_most, row_at, counted_none, counted_few, counted_stop, counted_more, counted_all}
 use Rattle.measures.proofs.count.Count.of_described.Goals as goal
 
-pub returns-then-not-is-within-limits : goal.returns-then-not-is-within-limits
-returns-then-not-is-within-limits g c =
+pub returns-then-not-is_within_limits : goal.returns-then-not-is_within_limits
+returns-then-not-is_within_limits g c =
     let plan = c.args.plan.now in
     let clips = c.args.clips.now in
     let row = g.C.Described.row (length plan) in
-    not_limits plan (map row clips) (limits_rows row plan clips false c.if-not-is-within-limits.ensures)
+    not_limits plan (map row clips) (limits_rows row plan clips false c.if-not-is_within_limits.ensures)
 
-pub returns-then-is-err : goal.returns-then-is-err
-returns-then-is-err g c =
+pub returns-then-is_err : goal.returns-then-is_err
+returns-then-is_err g c =
     let plan = c.args.plan.now in
     let clips = c.args.clips.now in
     let row = g.C.Described.row (length plan) in
     let r = row c.clip-item.result in
     let n = length-map clips row in
     let v = c.letters-letters.result.now in
-    let f = fault_some plan v c.check-vector.result c.check-vector.ensures c.if-is-err.ensures.value in
+    let f = fault_some plan v c.check_vector.result c.check_vector.ensures c.if-is_err.ensures.value in
     not_plan plan (map row clips) (counted_stop plan (map row clips) c.loop-clip.numbers c.loop-clip.clip-index c.loop-clip.invariant r (omega arith)
     (row_at row clips c.clip-item.result c.loop-clip.clip-index (omega arith) c.clip-item.is) v c.letters-letters.ensures f)
 
-pub count-letters-requires : goal.count-letters-requires
-count-letters-requires g c =
+pub count_letters-requires : goal.count_letters-requires
+count_letters-requires g c =
     let plan = c.args.plan.now in
     let clips = c.args.clips.now in
     let row = g.C.Described.row (length plan) in
     let v = c.letters-letters.result.now in
-    let l = limits_parts plan (length clips) (sym c.if-not-is-within-limits.ensures) in
-    let s = vector_small plan v l.0 (fault_none plan v c.check-vector.result c.check-vector.ensures c.if-is-err.ensures.value) in
+    let l = limits_parts plan (length clips) (sym c.if-not-is_within_limits.ensures) in
+    let s = vector_small plan v l.0 (fault_none plan v c.check_vector.result c.check_vector.ensures c.if-is_err.ensures.value) in
     let n = length-map clips row in
     let m = l.2 in
     record {
@@ -44,7 +44,7 @@ count-letters-requires g c =
 pub loop-clip-init : goal.loop-clip-init
 loop-clip-init g c =
     let plan = c.args.plan.now in
-    counted_none plan (map (g.C.Described.row (length plan)) c.args.clips.now) c.no-numbers-numbers.result c.no-numbers-numbers.ensures.shape c.no-numbers-numbers.ensures.numbers
+    counted_none plan (map (g.C.Described.row (length plan)) c.args.clips.now) c.no_numbers-numbers.result c.no_numbers-numbers.ensures.shape c.no_numbers-numbers.ensures.numbers
 
 pub loop-clip-preserved : goal.loop-clip-preserved
 loop-clip-preserved g c =
@@ -54,17 +54,17 @@ loop-clip-preserved g c =
     let r = row c.clip-item.result in
     let n = length-map clips row in
     let v = c.letters-letters.result.now in
-    let f = fault_none plan v c.check-vector.result c.check-vector.ensures c.if-is-err.ensures.value in
+    let f = fault_none plan v c.check_vector.result c.check_vector.ensures c.if-is_err.ensures.value in
     counted_more plan (map row clips) c.loop-clip.numbers c.loop-clip.clip-index c.loop-clip.invariant r (omega arith)
     (row_at row clips c.clip-item.result c.loop-clip.clip-index (omega arith) c.clip-item.is) v c.letters-letters.ensures f
-    c.count-letters.new.numbers c.count-letters.ensures.shape c.count-letters.ensures.numbers
+    c.count_letters.new.numbers c.count_letters.ensures.shape c.count_letters.ensures.numbers
 
-pub invariant-of-result : goal.invariant-of-result
-invariant-of-result g c =
+pub invariant_of-result : goal.invariant_of-result
+invariant_of-result g c =
     let plan = c.args.plan.now in
     let clips = c.args.clips.now in
     let row = g.C.Described.row (length plan) in
-    let l = limits_parts plan (length clips) (sym c.if-not-is-within-limits.ensures) in
+    let l = limits_parts plan (length clips) (sym c.if-not-is_within_limits.ensures) in
     let d = plan_dimensions plan l.0 in
     let n = length-map clips row in
     let all = counted_all plan (map row clips) c.loop-clip.numbers c.loop-clip.clip-index c.loop-clip.invariant (omega arith) in (
@@ -91,7 +91,7 @@ returns g c =
     let row = g.C.Described.row (length plan) in
     let rows = map row clips in
     let n = length-map clips row in
-    let t = limits_rows row plan clips true c.if-not-is-within-limits.ensures in
+    let t = limits_rows row plan clips true c.if-not-is_within_limits.ensures in
     let all = counted_all plan rows c.loop-clip.numbers c.loop-clip.clip-index c.loop-clip.invariant (omega arith) in (
       and_from (limits plan (length rows)) (of_plan plan rows) t all.0,
       record { dimensions = refl; total = sym n; numbers = all.1 },
