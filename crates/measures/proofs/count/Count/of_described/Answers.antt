@@ -67,22 +67,15 @@ invariant_of-result g c =
     let l = limits_parts plan (length clips) (sym c.if-not-is_within_limits.ensures) in
     let d = plan_dimensions plan l.0 in
     let n = length-map clips row in
-    let all = counted_all plan (map row clips) c.loop-clip.numbers c.loop-clip.clip-index c.loop-clip.invariant (omega arith) in (
-      d.0,
-      (
-        d.1,
-        (
-          l.1,
-          (
-            l.2,
-            (
-              c.loop-clip.invariant.shape,
-              ((λ i x. let e = all.1 i x in let m = count_most i x (map row clips) in omega arith), tt),
-            ),
-          ),
-        ),
-      ),
-    )
+    let all = counted_all plan (map row clips) c.loop-clip.numbers c.loop-clip.clip-index c.loop-clip.invariant (omega arith) in
+    record {
+      least = d.0;
+      most = d.1;
+      some = l.1;
+      few = l.2;
+      shape = c.loop-clip.invariant.shape;
+      each = λ i x. let e = all.1 i x in let m = count_most i x (map row clips) in omega arith;
+    }
 
 pub returns : goal.returns
 returns g c =
