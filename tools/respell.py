@@ -30,7 +30,6 @@ APART = {
     "geh-finds": "geh_finds_lem",
     "getD-join": "get_or_join",
     "letterCost": "letter_costs",
-    "not-false": "not_false_lem",
     "number-fault": "number_fault_lem",
     "of-plan": "fits_plan",
     "rows-below": "rows_below_lem",

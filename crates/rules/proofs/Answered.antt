@@ -1,7 +1,7 @@
 -- What a call that is not refused was checked for, and that its answer does not turn on the order of the rows.
 use Rattle.std.proofs.Common.{◌≡◌, ℕ, ◌*◌, ◌<◌, ◌≤◌, true, false, not, ◌||◌, eqb, ltb, leb, List, length, None, ap, ap₂, arith}
 use Rattle.std.specs.List.{AllByRecursion as All}
-use Rattle.std.proofs.lemmas.Bool.{not_false_lem, eqb-true, eqb-false, leb-false}
+use Rattle.std.proofs.lemmas.Bool.{not-false, eqb-true, eqb-false, leb-false}
 use Rattle.ranked.specs.Same.{Same}
 use Rattle.ranked.proofs.Sames.{length_same}
 use Rattle.space.specs.Row.{Row}
@@ -19,7 +19,7 @@ use Rattle.rules.proofs.Times.{Single, lists_same, once_single}
 pub vector_open : (plan v : List ℕ) → of_vector plan v ≡ None → (length v ≡ length plan) × (bad_letter 1 plan v ≡ 0)
 vector_open plan v e =
     let a = else_none (when (not (eqb (length v) (length plan))) 8) (when_at 9 (bad_letter 1 plan v) 0) e in
-    (eqb-true (length v) (length plan) (not_false_lem (eqb (length v) (length plan)) (when_none (not (eqb (length v) (length plan))) 8 a.0)), when_at_none 9 (bad_letter 1 plan v) 0 a.1)
+    (eqb-true (length v) (length plan) (not-false (eqb (length v) (length plan)) (when_none (not (eqb (length v) (length plan))) 8 a.0)), when_at_none 9 (bad_letter 1 plan v) 0 a.1)
 
 pub clip_open : (plan : List ℕ) (n : ℕ) (v : List ℕ) → of_clip plan n v ≡ None → Proper plan (record { number = n; letters = v })
 clip_open plan n v e =
@@ -39,7 +39,7 @@ pub withdraw_open : (rows : List Row) (n words : ℕ) → of_withdraw rows n wor
 withdraw_open rows n words e =
     let a = else_none (when (eqb n 0) 7) (when (not (lists n rows)) 22 else when (ltb words (2 * length rows)) 24) e in
     let b = else_none (when (not (lists n rows)) 22) (when (ltb words (2 * length rows)) 24) a.1 in
-    not_false_lem (lists n rows) (when_none (not (lists n rows)) 22 b.0)
+    not-false (lists n rows) (when_none (not (lists n rows)) 22 b.0)
 
 pub load_open : (plan : List ℕ) (capacity : ℕ) (rows : List Row) (file : List ℕ) → of_load plan capacity rows file ≡ None
     → All (Proper plan) (file_rows plan file) × Single (file_rows plan file) × (length (file_rows plan file) ≤ capacity) × (length rows ≡ 0)

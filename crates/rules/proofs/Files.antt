@@ -3,7 +3,7 @@ use Rattle.std.proofs.Common.{◌≡◌, ℕ, zero, suc, ◌+◌, ◌-◌, ◌*�
 use Rattle.std.specs.List.{AllByRecursion as All}
 use Rattle.std.proofs.lemmas.List.{append_assoc, length-append, length-take-le, length-drop, take_at, drop_at, drop-drop, take-append-drop, nil_from_length}
 use Rattle.std.proofs.ByRecursion.{All-weaker, All-drop}
-use Rattle.std.proofs.lemmas.Bool.{and_parts, and_from, eqb-true, eq-eqb, ltb-true, ltb-false, lt-ltb, le-ltb, or_from, or_parts, not_false_lem, not_from_true, cond-true}
+use Rattle.std.proofs.lemmas.Bool.{and_parts, and_from, eqb-true, eq-eqb, ltb-true, ltb-false, lt-ltb, le-ltb, or_from, or_parts, not-false, not_from_true, cond-true}
 use Rattle.ranked.proofs.Sames.{all_same, length_same}
 use Rattle.space.specs.Row.{Row}
 use Rattle.rules.specs.Rows.{lower, rising}
@@ -126,12 +126,12 @@ module _ (plan : List ℕ) (capacity : ℕ) (rows : List Row) (file : List ℕ) 
       let p4 = else_none _ _ p3.1 in
       let p5 = else_none _ _ p4.1 in
       record {
-        starts = not_false_lem (begins (header plan) file) (when_none _ 4 p0.0);
+        starts = not-false (begins (header plan) file) (when_none _ 4 p0.0);
         long = just (or_parts (ltb (length (body plan file)) 2) (ltb (length (body plan file)) want) (when_none _ 5 p1.0)).1 (when_none _ 6 p2.0);
         numbers = good_above 1 0 (file_rows plan file) p3.0;
         letters = good_rows 1 plan (file_rows plan file) p4.0;
         room = ltb-false capacity (announced plan file) (when_none _ 23 p5.0);
-        new = eqb-true (length rows) 0 (not_false_lem (eqb (length rows) 0) (when_none _ 25 p5.1));
+        new = eqb-true (length rows) 0 (not-false (eqb (length rows) 0) (when_none _ 25 p5.1));
       }
     where
       -- neither shorter nor longer

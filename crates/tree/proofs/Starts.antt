@@ -33,9 +33,9 @@ pub record Fit (plan : List ℕ) (capacity boxes : ℕ) : Type 0 where
   pub most : capacity ≤ 4096
   pub room : max 1 (capacity / 2) ≤ boxes
 
-not_false_lem : (t : Bool) → not t ≡ false → t ≡ true
-not_false_lem true e = refl
-not_false_lem false e = sym e
+not-false : (t : Bool) → not t ≡ false → t ≡ true
+not-false true e = refl
+not-false false e = sym e
 
 sizes_small : (i : ℕ) (plan : List ℕ) → bad_size (suc i) plan ≡ 0 → All (λ s. s ≤ 64) plan
 sizes_small i [] e = tt
@@ -55,8 +55,8 @@ fit_open plan capacity boxes e =
     let a = else_none (of_sizes plan) _ e in
     let b = else_none (when (not (leb 1 capacity && leb capacity 4096)) 2) _ a.1 in
     let p = else_none (when (not (dimensions (length plan))) 1) _ a.0 in
-    let d = and_parts (leb 1 (length plan)) _ (not_false_lem _ (when_none _ 1 p.0)) in
-    let c = and_parts (leb 1 capacity) _ (not_false_lem _ (when_none _ 2 b.0)) in
+    let d = and_parts (leb 1 (length plan)) _ (not-false _ (when_none _ 1 p.0)) in
+    let c = and_parts (leb 1 capacity) _ (not-false _ (when_none _ 2 b.0)) in
     record {
       fault = unrefused (plan_fault plan) (faults_refuse.0 plan ∙ a.0);
       some = leb-true 1 (length plan) d.0;
