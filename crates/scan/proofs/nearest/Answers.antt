@@ -9,8 +9,8 @@ loop-clip-preserved g c =
     scanned_more dist c.args.clips.now c.args.slots.now c.loop-clip.slots c.loop-clip.found c.loop-clip.clip-index c.loop-clip.invariant
     c.loop-clip.auto.slots c.clip-item.result c.loop-clip-test.true c.clip-item.is
     c.distance-distance.result (told (g.M.Measure.distances c.args.measure.now c.args.query.now) c.distance-distance.result c.deref.result.now (vec_items c.clip-item.result.letters)
-    c.distance-distance.ensures c.deref.ensures.value) c.put-find-found.result c.put-find-found.new.slots
-    c.put-find-found.ensures.count c.put-find-found.ensures.front c.put-find-found.ensures.back
+    c.distance-distance.ensures c.deref.ensures.value) c.put_find-found.result c.put_find-found.new.slots
+    c.put_find-found.ensures.count c.put_find-found.ensures.front c.put_find-found.ensures.back
 
 pub returns : goal.returns
 returns g c =

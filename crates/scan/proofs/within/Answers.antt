@@ -11,9 +11,9 @@ loop-clip-preserved g c =
     let v = vec_items c.clip-item.result.letters in
     scanned_more dist c.args.clips.now c.args.slots.now c.loop-clip.slots c.loop-clip.found c.loop-clip.clip-index c.loop-clip.invariant
     c.loop-clip.auto.slots c.clip-item.result c.loop-clip-test.true c.clip-item.is
-    c.up-to-distance.result (told (up_to c.args.radius) c.up-to-distance.result c.distance.result (g.M.Measure.distances c.args.measure.now c.args.query.now v) c.up-to-distance.ensures
-    (told (g.M.Measure.distances c.args.measure.now c.args.query.now) c.distance.result c.deref.result.now v c.distance.ensures c.deref.ensures.value)) c.put-find-found.result c.put-find-found.new.slots
-    c.put-find-found.ensures.count c.put-find-found.ensures.front c.put-find-found.ensures.back
+    c.up_to-distance.result (told (up_to c.args.radius) c.up_to-distance.result c.distance.result (g.M.Measure.distances c.args.measure.now c.args.query.now v) c.up_to-distance.ensures
+    (told (g.M.Measure.distances c.args.measure.now c.args.query.now) c.distance.result c.deref.result.now v c.distance.ensures c.deref.ensures.value)) c.put_find-found.result c.put_find-found.new.slots
+    c.put_find-found.ensures.count c.put_find-found.ensures.front c.put_find-found.ensures.back
 
 pub returns : goal.returns
 returns g c =

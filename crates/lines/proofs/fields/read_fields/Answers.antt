@@ -10,5 +10,5 @@ returns-in-32 c =
     let s = c.args.text.now in
     let h : 0 < length s = omega (arith, ltb-false) in
     let e : get_or s 0 0 ≡ 32 = omega arith in
-    let P : Option (List ℕ) → Type 0 = λ f. MatchResult c.read-spaced.result (λ v. f ≡ Some (vec_items v)) (Faulty f) in
-    subst P (ap (fields_from None) (take_rest s 1) ∙ sym (opening s h e)) c.read-spaced.ensures
+    let P : Option (List ℕ) → Type 0 = λ f. MatchResult c.read_spaced.result (λ v. f ≡ Some (vec_items v)) (Faulty f) in
+    subst P (ap (fields_from None) (take_rest s 1) ∙ sym (opening s h e)) c.read_spaced.ensures

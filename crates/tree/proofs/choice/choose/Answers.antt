@@ -14,14 +14,14 @@ loop-i-preserved c =
     let g = growth (map (take c.args.dims) c.args.boxes.now) (take c.args.dims c.args.letters) in
     elim c.if-is-less.branch [
       | then-is-less v ↦ (
-        v.place_is ∙ least_takes g c.loop-i.i c.loop-i.place c.growth-of-score.result c.loop-i.best c.loop-i.invariant.0 c.loop-i.invariant.1 c.growth-of-score.ensures (sym v.if-is-less.ensures),
-        v.best_is ∙ c.growth-of-score.ensures ∙ ap g (sym v.place_is),
-        omega (arith, v.place_is),
+        v.place-is ∙ least_takes g c.loop-i.i c.loop-i.place c.growth-of-score.result c.loop-i.best c.loop-i.invariant.0 c.loop-i.invariant.1 c.growth-of-score.ensures (sym v.if-is-less.ensures),
+        v.best-is ∙ c.growth-of-score.ensures ∙ ap g (sym v.place-is),
+        omega (arith, v.place-is),
       )
       | else-is-less v ↦ (
-        v.place_is ∙ least_keeps g c.loop-i.i c.loop-i.place c.growth-of-score.result c.loop-i.best c.loop-i.invariant.0 c.loop-i.invariant.1 c.growth-of-score.ensures (sym v.if-is-less.ensures),
-        v.best_is ∙ c.loop-i.invariant.1 ∙ ap g (sym v.place_is),
-        omega (arith, v.place_is),
+        v.place-is ∙ least_keeps g c.loop-i.i c.loop-i.place c.growth-of-score.result c.loop-i.best c.loop-i.invariant.0 c.loop-i.invariant.1 c.growth-of-score.ensures (sym v.if-is-less.ensures),
+        v.best-is ∙ c.loop-i.invariant.1 ∙ ap g (sym v.place-is),
+        omega (arith, v.place-is),
       )
     ]
 

@@ -13,10 +13,10 @@ loop-code-preserved c =
     let n = c.loop-code.code in
     elim c.if-is-division.branch [
       | then-is-division+then-is-less w ↦
-          w.best_is ∙ best_takes d bs n w.score-of-score.result c.loop-code.best c.loop-code.invariant (sym w.if-is-division.ensures) w.score-of-score.ensures (sym w.if-is-less.ensures)
+          w.best-is ∙ best_takes d bs n w.score-of-score.result c.loop-code.best c.loop-code.invariant (sym w.if-is-division.ensures) w.score-of-score.ensures (sym w.if-is-less.ensures)
       | then-is-division+else-is-less w ↦
-          w.best_is ∙ best_keeps d bs n w.score-of-score.result c.loop-code.best c.loop-code.invariant (sym w.if-is-division.ensures) w.score-of-score.ensures (sym w.if-is-less.ensures)
-      | else-is-division w ↦ w.best_is ∙ best_no d bs n c.loop-code.best c.loop-code.best c.loop-code.invariant (sym w.if-is-division.ensures)
+          w.best-is ∙ best_keeps d bs n w.score-of-score.result c.loop-code.best c.loop-code.invariant (sym w.if-is-division.ensures) w.score-of-score.ensures (sym w.if-is-less.ensures)
+      | else-is-division w ↦ w.best-is ∙ best_no d bs n c.loop-code.best c.loop-code.best c.loop-code.invariant (sym w.if-is-division.ensures)
     ]
 
 pub returns : goal.returns
