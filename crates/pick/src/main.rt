@@ -13,6 +13,7 @@ mod session;
 use crate::command::read_command;
 use crate::refusal::Trouble;
 use crate::session::Session;
+use anyhow::anyhow;
 use lines::{FieldsError, cut_line};
 use std::io::Read;
 
@@ -31,12 +32,12 @@ fn answer_line(
     let command = match read_command(rt.alloc(), line) {
         Ok(command) => command,
         Err(FieldsError::Malformed) => return Ok(println!(rt; "line {number}: bad line")?),
-        Err(FieldsError::Memory) => return Err(NO_MEMORY.into()),
+        Err(FieldsError::Memory) => return Err(anyhow!(NO_MEMORY)),
     };
     match session.obey(rt.alloc(), command) {
         Ok(reply) => Ok(println!(rt; "{reply}")?),
         Err(Trouble::Refused(refusal)) => Ok(println!(rt; "line {number}: {refusal}")?),
-        Err(Trouble::Memory) => Err(NO_MEMORY.into()),
+        Err(Trouble::Memory) => Err(anyhow!(NO_MEMORY)),
     }
 }
 

@@ -9,26 +9,26 @@ use Rattle.file.proofs.Checks.{passed, failed}
 use Rattle.file.proofs.Listed.{length_rows, row_within, row_long, letters_pass, letters_stop}
 use Rattle.file.proofs.check.check_letters.Goals as goal
 
-pub letters-at-requires : goal.letters-at-requires
-letters-at-requires c =
+pub letters_at-requires : goal.letters_at-requires
+letters_at-requires c =
     row_within (length c.args.plan.now) c.args.count c.loop-index.index (length c.args.letters.now) (omega arith) c.requires
 
-pub check-row-requires : goal.check-row-requires
-check-row-requires c =
-    ap length c.letters-at.ensures
+pub check_row-requires : goal.check_row-requires
+check_row-requires c =
+    ap length c.letters_at.ensures
     ∙ row_long (length c.args.plan.now) c.args.count c.loop-index.index c.args.letters.now (omega arith) c.requires
 
-pub returns-in-err-check-row : goal.returns-in-err-check-row
-returns-in-err-check-row c =
-    let p = err_from_is_err_and c.from-residual.result c.from-residual.ensures.1 in
-    let z = failed _ _ c.in-err-check-row.ensures in
-    let m = letters_stop c.args.plan.now c.args.count c.args.letters.now c.loop-index.index (omega arith) _ c.letters-at.ensures _ z in
+pub returns-in_err-check_row : goal.returns-in_err-check_row
+returns-in_err-check_row c =
+    let p = err_from_is_err_and c.from_residual.result c.from_residual.ensures.1 in
+    let z = failed _ _ c.in_err-check_row.ensures in
+    let m = letters_stop c.args.plan.now c.args.count c.args.letters.now c.loop-index.index (omega arith) _ c.letters_at.ensures _ z in
     p.1 ∙ ap Err p.2 ∙ sym (ap unless_fault (sym c.loop-index.invariant ∙ m))
 
 pub loop-index-preserved : goal.loop-index-preserved
 loop-index-preserved c =
-    let z = passed _ _ c.in-ok-check-row.ensures in
-    letters_pass c.args.plan.now c.args.count c.args.letters.now c.loop-index.index (omega arith) _ c.letters-at.ensures z
+    let z = passed _ _ c.in_ok-check_row.ensures in
+    letters_pass c.args.plan.now c.args.count c.args.letters.now c.loop-index.index (omega arith) _ c.letters_at.ensures z
     ∙ c.loop-index.invariant
 
 pub returns : goal.returns

@@ -13,7 +13,7 @@ returns-in-Some c =
     record {
       starts = plan_there plan file _ h e (take_rest file 1) s.0;
       behind = s.1 ∙ behind_plan plan file _ h e (take_rest file 1);
-      few = omega (arith, c.type-inv.file 0);
+      few = omega (arith, c.type_inv.file 0);
     }
 
 pub returns-in-None : goal.returns-in-None

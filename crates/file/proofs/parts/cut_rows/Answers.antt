@@ -11,8 +11,8 @@ returns c =
     let n = c.from-count.result in
     let h : 2 ≤ length rest = omega (arith, ltb-false) in
     let q = take_rest rest 2 in
-    let e : n ≡ number_of (take 2 rest) = c.from-count.ensures ∙ c.from-le-bytes.ensures ∙ sym (two_bytes rest h) in
-    let s = c.split-at.ensures in
+    let e : n ≡ number_of (take 2 rest) = c.from-count.ensures ∙ c.from_le_bytes.ensures ∙ sym (two_bytes rest h) in
+    let s = c.split_at.ensures in
     record {
       fits = no_length_fault c.args.d n rest _ h q e (omega arith);
       announces = e;

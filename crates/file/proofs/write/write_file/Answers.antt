@@ -9,6 +9,6 @@ returns c =
     let output = c.args.output.now in
     record {
       value = written_given (length plan) (length clips) (length output) (omega arith) (omega arith) (omega arith) (omega arith);
-      long = whole_long plan clips output c.write-letters.ensures.long;
-      bytes = whole_put plan clips output _ _ _ c.write-front.ensures (c.write-numbers.ensures (length plan)) c.write-letters.ensures.bytes;
+      long = whole_long plan clips output c.write_letters.ensures.long;
+      bytes = whole_put plan clips output _ _ _ c.write_front.ensures (c.write_numbers.ensures (length plan)) c.write_letters.ensures.bytes;
     }

@@ -6,6 +6,6 @@ use Rattle.file.proofs.write.write_front.Goals as goal
 pub returns : goal.returns
 returns c =
     let plan = c.args.plan.now in
-    c.write-at-3.ensures
-    ∙ ap₂ (put (1 + length plan)) c.to-le-bytes.ensures (c.write-at-2.ensures ∙ ap (put 1 plan) c.write-at.ensures)
+    c.write_at-3.ensures
+    ∙ ap₂ (put (1 + length plan)) c.to_le_bytes.ensures (c.write_at-2.ensures ∙ ap (put 1 plan) c.write_at.ensures)
     ∙ front_put plan _ c.args.output.now

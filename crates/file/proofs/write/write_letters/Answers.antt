@@ -9,28 +9,28 @@ use Rattle.file.proofs.write.write_letters.Goals as goal
 pub loop-i-init : goal.loop-i-init
 loop-i-init c = (sym (put_none c.args.at c.args.output.now), sym (mul-zero c.args.d))
 
-pub overflow-add-at : goal.overflow-add-at
-overflow-add-at c =
+pub overflow_add-at : goal.overflow_add-at
+overflow_add-at c =
     let n = length c.args.clips.now in
     let l = row_within c.args.d n c.loop-i.i (c.args.d * n) c.loop-i-test.true (omega arith) in
     omega arith
 
-pub write-at-requires : goal.write-at-requires
-write-at-requires c =
+pub write_at-requires : goal.write_at-requires
+write_at-requires c =
     let n = length c.args.clips.now in
     let l = row_within c.args.d n c.loop-i.i (c.args.d * n) c.loop-i-test.true (omega arith) in
-    let e = c.letters-of.ensures.long in
+    let e = c.letters_of.ensures.long in
     omega arith
 
 pub loop-i-preserved : goal.loop-i-preserved
 loop-i-preserved c =
     let clips = c.args.clips.now in
-    let v = c.letters-of.ensures.value in (
-      c.write-at.ensures
+    let v = c.letters_of.ensures.value in (
+      c.write_at.ensures
           ∙ letter_step c.args.d clips c.loop-i.i c.loop-i-test.true c.args.at c.args.output.now _ _ (omega arith) v c.loop-i.invariant.1
           c.loop-i.invariant.0,
       letter_long c.args.d clips c.loop-i.i c.loop-i-test.true c.args.at c.args.output.now c.loop-i.output _ (omega arith) v
-          c.loop-i.invariant.1 c.letters-of.ensures.long,
+          c.loop-i.invariant.1 c.letters_of.ensures.long,
     )
 
 pub returns : goal.returns

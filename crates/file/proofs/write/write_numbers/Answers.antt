@@ -10,9 +10,9 @@ loop-i-init c = λ d. sym (put_none c.args.at c.args.output.now)
 
 pub loop-i-preserved : goal.loop-i-preserved
 loop-i-preserved c = λ d.
-    c.write-at.ensures
+    c.write_at.ensures
     ∙ number_step d c.args.clips.now c.loop-i.i c.loop-i-test.true c.args.at c.args.output.now _ _ (omega arith) (c.loop-i.invariant d)
-    (c.to-le-bytes.ensures ∙ four_apart _)
+    (c.to_le_bytes.ensures ∙ four_apart _)
 
 pub returns : goal.returns
 returns c = λ d.

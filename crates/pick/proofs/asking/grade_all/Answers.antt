@@ -12,7 +12,7 @@ loop-find-preserved c =
     let none : Find = record { distance = 0; clip = 0 } in
     let f = graded c.args.geh.now.count.dimensions c.args.geh.now.count.total in
     let one : _ → Graded = λ n. record { find = get_or fs i none; grade = n } in
-    c.in-ok-push.ensures.items
+    c.in_ok-push.ensures.items
     ∙ ap₂ (λ xs n. xs ++ (one n ∷ [])) c.loop-find.invariant c.grade.ensures
     ∙ sym (map_more f fs i none (omega arith))
 

@@ -9,11 +9,11 @@ use Rattle.pick.proofs.asking.nearest_finds.Goals as goal
 pub returns : goal.returns
 returns g c =
     let all = ranking (far_by (g.M.Measure.distances c.args.measure.now) c.args.query.now) (rows_of c.args.clips.now) in
-    let slots = c.deref-mut.result.now in
+    let slots = c.deref_mut.result.now in
     let after = c.nearest-found.new.slots in
     let r = c.nearest-found.result in
-    let made = c.in-ok-finds.ensures.len in
+    let made = c.in_ok-finds.ensures.len in
     let m : length slots ≡ c.args.count = omega arith in
-    let n : length after ≡ c.in-ok-finds.finds.len = omega (arith, c.nearest-found.auto.slots) in
-    c.truncate.ensures.items ∙ ap (take r) (with_items_is c.in-ok-finds.finds after n ∙ c.nearest-found.ensures.finds)
+    let n : length after ≡ c.in_ok-finds.finds.len = omega (arith, c.nearest-found.auto.slots) in
+    c.truncate.ensures.items ∙ ap (take r) (with_items_is c.in_ok-finds.finds after n ∙ c.nearest-found.ensures.finds)
     ∙ filled_front all slots r c.nearest-found.ensures.count ∙ ap (λ k. take k all) m

@@ -14,7 +14,7 @@ pub loop-field-preserved : goal.loop-field-preserved
 loop-field-preserved c =
     let ns = c.args.fields.now in
     let i = c.loop-field.field-index in (
-      c.in-ok-push.ensures.items ∙ ap (λ t. t ++ (get_or ns i 0 ∷ [])) c.loop-field.invariant.0 ∙ sym (take_more ns i 0 (omega arith)),
+      c.in_ok-push.ensures.items ∙ ap (λ t. t ++ (get_or ns i 0 ∷ [])) c.loop-field.invariant.0 ∙ sym (take_more ns i 0 (omega arith)),
       byte_more ns i (omega arith) c.if-field-gt255.false ∙ c.loop-field.invariant.1,
     )
 

@@ -5,16 +5,16 @@ use Rattle.pick.specs.Said.{near, near_said}
 use Rattle.pick.proofs.Bytes.{first_then, faulty_on}
 use Rattle.pick.proofs.command.read_nearest.Goals as goal
 
-pub returns-in-err-read-bytes : goal.returns-in-err-read-bytes
-returns-in-err-read-bytes c =
+pub returns-in_err-read_bytes : goal.returns-in_err-read_bytes
+returns-in_err-read_bytes c =
     let ns = c.args.fields.now in
     let h : 0 < length ns = omega (arith, ltb-false) in
     let e = first_then near near_said (λ n ms. refl) ns h in
-    let p = err_from_is_err_and c.from-residual.result c.from-residual.ensures.1 in
-    rw (p.1, p.2) (faulty_on _ (near_said ns) _ (λ z. e ∙ ap (option_map (near (get_or ns 0 0))) z) c.in-err-read-bytes.ensures)
+    let p = err_from_is_err_and c.from_residual.result c.from_residual.ensures.1 in
+    rw (p.1, p.2) (faulty_on _ (near_said ns) _ (λ z. e ∙ ap (option_map (near (get_or ns 0 0))) z) c.in_err-read_bytes.ensures)
 
 pub returns : goal.returns
 returns c =
     let ns = c.args.fields.now in
     let h : 0 < length ns = omega (arith, ltb-false) in
-    first_then near near_said (λ n ms. refl) ns h ∙ ap (option_map (near (get_or ns 0 0))) c.in-ok-read-bytes.ensures
+    first_then near near_said (λ n ms. refl) ns h ∙ ap (option_map (near (get_or ns 0 0))) c.in_ok-read_bytes.ensures

@@ -18,12 +18,12 @@ returns c =
     let q = vec_items c.args.query in
     let n = length-map (vec_items self.clips) row_of in
     answers self k q _
-    (ap (ask_fault self k) (sym c.deref.ensures.value) ∙ fault_none _ c.in-ok-check-query.ensures)
+    (ap (ask_fault self k) (sym c.deref.ensures.value) ∙ fault_none _ c.in_ok-check_query.ensures)
     refl
     (omega arith)
-    (c.in-ok-hamming.ensures ∙ ap₂ (λ v cs. take k (ranking (far_by hamming_distance v) (rows_of cs))) c.deref-2.ensures.value c.deref-3.ensures.value)
-    (c.in-ok-geh.ensures ∙ ap (geh_finds (sizes_of self) (rows_in self) k) c.deref-4.ensures.value)
-    (c.in-ok-barred.ensures
+    (c.in_ok-hamming.ensures ∙ ap₂ (λ v cs. take k (ranking (far_by hamming_distance v) (rows_of cs))) c.deref-2.ensures.value c.deref-3.ensures.value)
+    (c.in_ok-geh.ensures ∙ ap (geh_finds (sizes_of self) (rows_in self) k) c.deref-4.ensures.value)
+    (c.in_ok-barred.ensures
     ∙ ap₂ (λ v cs. take k (ranking (far_by (cut_distance c.new-spared.result.limit (bar_distance c.new-spared.result.below.bars hamming_distance)) v) (rows_of cs))) c.deref-5.ensures.value c.deref-6.ensures.value
     ∙ ap (λ m. take k (ranking (far_by (cut_distance m.limit (bar_distance m.below.bars hamming_distance)) q) (rows_in self))) c.new-spared.ensures
     ∙ ap (λ b. take k (ranking (far_by (cut_distance self.limit (bar_distance b.bars hamming_distance)) q) (rows_in self))) c.new.ensures)

@@ -11,9 +11,9 @@ pub returns-then-len-ge-CAPACITY : goal.returns-then-len-ge-CAPACITY
 returns-then-len-ge-CAPACITY c =
     let self = c.args.self.now in
     let rows = rows_of (vec_items self.clips) in
-    let f = fault_none _ c.in-ok-check-clip.ensures in
+    let f = fault_none _ c.in_ok-check_clip.ensures in
     let e : clip_fault (vec_items self.plan) c.args.number c.args.letters.now ≡ None = ap (λ p. clip_fault p c.args.number c.args.letters.now) (sym c.deref.ensures.value) ∙ f in
-    let u = ap (λ s. listed c.args.number (rows_of s)) (sym c.deref-2.ensures.value) ∙ sym c.if-is-listed.ensures in
+    let u = ap (λ s. listed c.args.number (rows_of s)) (sym c.deref-2.ensures.value) ∙ sym c.if-is_listed.ensures in
     let n = length-map (vec_items self.clips) row_of in
     ap unless_fault (sym (full _ (listed c.args.number rows) (length rows) e u (omega arith)))
 
@@ -21,8 +21,8 @@ pub returns : goal.returns
 returns c =
     let self = c.args.self.now in
     let rows = rows_of (vec_items self.clips) in
-    let f = fault_none _ c.in-ok-check-clip.ensures in
+    let f = fault_none _ c.in_ok-check_clip.ensures in
     let e : clip_fault (vec_items self.plan) c.args.number c.args.letters.now ≡ None = ap (λ p. clip_fault p c.args.number c.args.letters.now) (sym c.deref.ensures.value) ∙ f in
-    let u = ap (λ s. listed c.args.number (rows_of s)) (sym c.deref-2.ensures.value) ∙ sym c.if-is-listed.ensures in
+    let u = ap (λ s. listed c.args.number (rows_of s)) (sym c.deref-2.ensures.value) ∙ sym c.if-is_listed.ensures in
     let n = length-map (vec_items self.clips) row_of in
     ap unless_fault (sym (room _ (listed c.args.number rows) (length rows) e u (omega arith)))

@@ -8,19 +8,19 @@ use Rattle.pick.proofs.Checks.{new_parts}
 use Rattle.pick.proofs.Listings.{Held, push_held}
 use Rattle.pick.proofs.library.Library.list.Goals as goal
 
-pub invariant-of-self : goal.invariant-of-self
-invariant-of-self c =
+pub invariant_of-self : goal.invariant_of-self
+invariant_of-self c =
     let self = c.args.self.now in
     let v = vec_items c.args.letters in
-    let f : list_fault self c.args.number v ≡ None = ap (list_fault self c.args.number) (sym c.deref.ensures.value) ∙ fault_none _ c.in-ok-check-new.ensures in
+    let f : list_fault self c.args.number v ≡ None = ap (list_fault self c.args.number) (sym c.deref.ensures.value) ∙ fault_none _ c.in_ok-check_new.ensures in
     let p = new_parts self c.args.number v f in
     let held : Held (vec_items self.plan) (rows_of (vec_items self.clips)) = record { fits_plan = self.of_plan; once = self.once; few = self.few } in
     let h = push_held (vec_items self.plan) (vec_items self.clips) (vec_items c.push.new.self) _ (is_ok c.push.result) c.push.ensures.items held p.0 p.1 (ltb-true _ 4096 p.2) in
-    (self.planned, (h.fits_plan, (h.once, (h.few, tt))))
+    record { planned = self.planned; of_plan = h.fits_plan; once = h.once; few = h.few }
 
 pub returns : goal.returns
 returns c =
     let self = c.args.self.now in
     let v = vec_items c.args.letters in
-    let f : list_fault self c.args.number v ≡ None = ap (list_fault self c.args.number) (sym c.deref.ensures.value) ∙ fault_none _ c.in-ok-check-new.ensures in
-    (f, record { rows = ap rows_of c.in-ok-push.ensures.items ∙ map_push row_of (vec_items self.clips) _; keeps = (refl, refl, refl) })
+    let f : list_fault self c.args.number v ≡ None = ap (list_fault self c.args.number) (sym c.deref.ensures.value) ∙ fault_none _ c.in_ok-check_new.ensures in
+    (f, record { rows = ap rows_of c.in_ok-push.ensures.items ∙ map_push row_of (vec_items self.clips) _; keeps = (refl, refl, refl) })

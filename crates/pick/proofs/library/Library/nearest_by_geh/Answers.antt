@@ -5,12 +5,12 @@ use Rattle.space.specs.Row.{rows_of}
 use Rattle.pick.proofs.Findings.{uncounted, geh_none, geh_graded}
 use Rattle.pick.proofs.library.Library.nearest_by_geh.Goals as goal
 
-pub returns-in-default : goal.returns-in-default
-returns-in-default c =
+pub returns-in_default : goal.returns-in_default
+returns-in_default c =
     let self = c.args.self.now in
     let plan = vec_items self.plan in
     let rows = rows_of (vec_items self.clips) in
-    let e = ap₂ (λ p cs. countable p (rows_of cs)) (sym c.deref.ensures.value) (sym c.deref-2.ensures.value) ∙ c.in-default.ensures in
+    let e = ap₂ (λ p cs. countable p (rows_of cs)) (sym c.deref.ensures.value) (sym c.deref-2.ensures.value) ∙ c.in_default.ensures in
     c.new.ensures.items ∙ sym (geh_none plan rows c.args.count c.args.query.now (uncounted plan rows self.planned self.of_plan self.few e))
 
 pub returns : goal.returns
@@ -18,7 +18,7 @@ returns c =
     let self = c.args.self.now in
     let held = c.new-geh.result.count in
     let e = geh_graded (vec_items self.plan) c.deref.result.now c.args.query.now (vec_items self.clips) c.deref-2.result.now c.deref-3.result.now
-    c.in-Some.letters held c.args.count (vec_items c.in-ok-finds.finds) c.deref-4.result.now
+    c.in-Some.letters held c.args.count (vec_items c.in_ok-finds.finds) c.deref-4.result.now
     c.deref.ensures.value c.deref-2.ensures.value c.deref-3.ensures.value c.deref-4.ensures.value (ap (λ g. g.count) c.new-geh.ensures)
-    c.in-Some.ensures.1 c.in-ok-finds.ensures in
-    IfOk-weaker c.grade-all.result _ _ (λ v h. h ∙ e) c.grade-all.ensures
+    c.in-Some.ensures.1 c.in_ok-finds.ensures in
+    IfOk-weaker c.grade_all.result _ _ (λ v h. h ∙ e) c.grade_all.ensures
