@@ -12,19 +12,19 @@ fn fault(rt: &HostRuntime, text: &[u8]) -> Option<FieldsError> {
 
 #[test]
 fn values(rt: HostRuntime) -> Result<(), Fail> {
-    assert_eq!(rt; read_fields(rt.alloc(), b"")?.as_slice(), &[]);
-    assert_eq!(rt; read_fields(rt.alloc(), b" 7")?.as_slice(), &[7]);
+    assert_eq!(rt; read_fields(rt.alloc(), b"")?.as_slice(), [].as_slice());
+    assert_eq!(rt; read_fields(rt.alloc(), b" 7")?.as_slice(), [7].as_slice());
     assert_eq!(rt;
         read_fields(rt.alloc(), b" 0 007 12")?.as_slice(),
-        &[0, 7, 12]
+        [0, 7, 12].as_slice()
     );
     assert_eq!(rt;
         read_fields(rt.alloc(), b" 4294967295")?.as_slice(),
-        &[4294967295]
+        [4294967295].as_slice()
     );
     assert_eq!(rt;
         read_fields(rt.alloc(), b" 00000000004294967295")?.as_slice(),
-        &[4294967295]
+        [4294967295].as_slice()
     );
     Ok(())
 }

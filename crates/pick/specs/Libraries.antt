@@ -1,5 +1,5 @@
 -- What a library does at each command.
-use Rattle.std.specs.Prelude.{◌≡◌, ℕ, ◌-◌, ◌^◌, cond, ◌&&◌, List, [], ◌∷◌, ◌++◌, length, set, replicate, Some, None, vec_items, Option, bit_or, nat_le, nat_lt, slice_index, slice_set}
+use Rattle.std.specs.Prelude.{◌≡◌, ℕ, ◌-◌, ◌^◌, cond, ◌&&◌, List, [], ◌∷◌, ◌++◌, length, replicate, Some, None, vec_items, Option, bit_or, nat_le, nat_lt, slice_index, slice_set}
 use Rattle.space.specs.Boxes.{only}
 use Rattle.space.specs.Plans.{clip_fault}
 use Rattle.space.specs.Row.{Row, rows_of}

@@ -1,6 +1,6 @@
 -- Rows in rising numbers.
-use Rattle.std.proofs.Common.{◌≡◌, ℕ, ◌/◌, ◌^◌, ◌≤◌, Bool, false, ltb, List, [], ◌∷◌, map, length, get_or, take, sym, refl, ap, ◌∙◌, subst, inl, arith}
-use Rattle.std.specs.List.{ContainsAt as Has, AllByRecursion as All}
+use Rattle.std.proofs.Common.{◌≡◌, ℕ, ◌/◌, ◌^◌, Bool, false, ltb, List, [], ◌∷◌, map, length, get_or, ◌∙◌, inl, arith}
+use Rattle.std.specs.List.{ContainsAt as Has}
 use Rattle.std.proofs.lemmas.List.{take_all}
 use Rattle.std.proofs.ByRecursion.{All-map, All-weaker, all_has_itself}
 use Rattle.std.proofs.lemmas.Bool.{ltb-true, ltb-false, le-ltb}

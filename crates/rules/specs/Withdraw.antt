@@ -1,5 +1,5 @@
 -- How a clip leaves the tree.
-use Rattle.std.specs.Prelude.{ℕ, zero, suc, cond, List, [], ◌∷◌, ◌++◌, length, take, drop, set, nat_lt, slice_set}
+use Rattle.std.specs.Prelude.{ℕ, zero, suc, cond, List, [], ◌∷◌, ◌++◌, length, take, drop, nat_lt, slice_set}
 use Rattle.space.specs.Row.{Row}
 use Rattle.rules.specs.Tree.{Entry, Tree, boxed, rows_below}
 use Rattle.rules.specs.Rows.{lists, without, rising}

@@ -1,4 +1,4 @@
-use Rattle.std.proofs.Common.{◌+◌, [], ◌∷◌, ◌++◌, get_or, Some, sym, ap, ◌∙◌, arith}
+use Rattle.std.proofs.Common.{[], ◌∷◌, ◌++◌, get_or, Some, sym, ap, ◌∙◌, arith}
 use Rattle.space.specs.Boxes.{given}
 use Rattle.std.proofs.lemmas.List.{take_more, take_all}
 use Rattle.pick.proofs.Bytes.{byte_more, byte_not, byte_all}

@@ -1,4 +1,4 @@
-use Rattle.std.proofs.Common.{ltb, length, arith}
+use Rattle.std.proofs.Common.{ltb, arith}
 use Rattle.std.proofs.lemmas.List.Sorted.{IsNonDecreasingBy-from_sort}
 use Rattle.std.proofs.lemmas.Bool.Decides.{nat_tests}
 use Rattle.ranked.specs.Rank.{Order}
