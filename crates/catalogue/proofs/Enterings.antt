@@ -1,6 +1,6 @@
 -- The rows of a file entered one after the other.
 use Rattle.std.proofs.Common.{◌≡◌, ℕ, suc, ◌+◌, ◌-◌, ◌<◌, ◌≤◌, false, cond, not, eqb, ltb, List, [], ◌∷◌, ◌++◌, length, get_or, take, drop, replicate, IfOk, Some, None, Ok, Err, Option, Result, sym, refl, ap, ◌∙◌, subst, ap₂, subst₂, arith}
-use Rattle.std.specs.List.{AllByRecursion as All}
+use Rattle.std.specs.List.{AllByRecursion}
 use Rattle.std.proofs.lemmas.List.{take-append-drop, take_more, take_all, drop_more, length-take-le, append-nil}
 use Rattle.std.proofs.ByRecursion.{All-get_or}
 use Rattle.std.proofs.lemmas.Bool.{eq-eqb, ne_eqb, lt-ltb, le-ltb}
@@ -162,7 +162,7 @@ saved_same plan rows others once s =
     ap (λ rs. header plan ++ (bytes_of 2 (length rs) ++ (number_bytes rs ++ letter_bytes rs)))
     (rising_only rows (rising others) once (then s (rising_same others)) (rising_rises others (once_same rows others s once)))
 
-pub saves_back : (x : Index) (file : List ℕ) → All (λ b. b < 256) file → None ≡ told (seen_index x) (loads file) → SavesBack (after (seen_index x) (loads file)) file
+pub saves_back : (x : Index) (file : List ℕ) → AllByRecursion (λ b. b < 256) file → None ≡ told (seen_index x) (loads file) → SavesBack (after (seen_index x) (loads file)) file
 saves_back x file bytes fine =
     let plan = plan_of x in
     let rows = file_rows (plan_of x) file in
@@ -175,7 +175,7 @@ saves_back x file bytes fine =
     subst (λ a. SavesBack (standing (plan_of x) x.capacity (unless a (entered_all (length (plan_of x)) (tree_in x) (file_rows (plan_of x) file)) (tree_in x))) file) fine
     (saved_same (plan_of x) (file_rows (plan_of x) file) _ p.1 s ∙ back)
 
-pub open_loads : (c : Catalogue) (x y : Index) (file : List ℕ) (r : Result ℕ Held) → c ≡ Open x → All (λ b. b < 256) file → index.Does x y (loads file) (refusal_of r)
+pub open_loads : (c : Catalogue) (x y : Index) (file : List ℕ) (r : Result ℕ Held) → c ≡ Open x → AllByRecursion (λ b. b < 256) file → index.Does x y (loads file) (refusal_of r)
     → IfOk r (λ n. n ≡ length (file_rows (plan_of x) file)) → IfOk r (λ n. n ≡ length (loaded_rows (seen_of c) file)) × IfOk r (λ _. SavesBack (seen_index y) file)
 open_loads c x y file (Err e) is bytes d rows = (tt, tt)
 open_loads c x y file (Ok n) is bytes d rows =

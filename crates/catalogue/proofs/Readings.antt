@@ -1,6 +1,6 @@
 -- What is saved and counted of an index.
 use Rattle.std.proofs.Common.{◌≡◌, ℕ, ◌-◌, ◌<◌, ◌≤◌, Bool, true, false, cond, not, ◌&&◌, eqb, ltb, leb, List, [], ◌∷◌, ◌++◌, map, length, take, drop, is_some, Some, None, Option, Result, unwrap_or, sym, refl, ap, ◌∙◌, subst, ap₂, subst₂, arith, MatchOption}
-use Rattle.std.specs.List.{AllByRecursion as All}
+use Rattle.std.specs.List.{AllByRecursion}
 use Rattle.std.proofs.lemmas.List.{length-map}
 use Rattle.std.proofs.ByRecursion.{All-weaker}
 use Rattle.std.proofs.lemmas.Bool.{false≢true, eqb-true, le-leb, leb-true, leb-false, le-ltb, lt-ltb, and_parts, and_from, ne_eqb}
@@ -99,7 +99,7 @@ module _ (x : Index) (clips : List StoredClip) (room : ℕ) (is : stored_rows (l
 
 -- ---- the count of an index
 module _ (x : Index) (plan : List ℕ) (clips : List StoredClip) (same : plan ≡ plan_of x) (is : stored_rows (length plan) clips ≡ rows_in (tree_in x)) where
-  rows_of_plan : (rows : List Row) → All (λ r. is_some (vector_fault (plan_of x) r.letters) ≡ false) rows → of_plan (plan_of x) rows ≡ true
+  rows_of_plan : (rows : List Row) → AllByRecursion (λ r. is_some (vector_fault (plan_of x) r.letters) ≡ false) rows → of_plan (plan_of x) rows ≡ true
   rows_of_plan [] a = refl
   rows_of_plan (r ∷ rs) a = ap₂ (λ s t. not s && t) a.0 (rows_of_plan rs a.1)
 

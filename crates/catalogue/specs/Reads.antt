@@ -1,6 +1,6 @@
 -- What the calls that only read a catalogue give.
 use Rattle.std.specs.Prelude.{◌≡◌, ℕ, List, [], ◌++◌, length, drop, None, Result, MatchResult}
-use Rattle.std.specs.List.{AllByRecursion as All}
+use Rattle.std.specs.List.{AllByRecursion}
 use Rattle.ranked.specs.Same.{Same}
 use Rattle.measures.specs.Counts.{count_at}
 use Rattle.measures.specs.Counted.{CountIs}
@@ -27,7 +27,7 @@ SavedAs s old new r = MatchResult r (λ n. (n ≡ length (saved_of s)) × (new �
 -- What is saved of a catalogue that calls with arguments that can be have made, loads into an empty one of its plan and capacity, with the same
 -- rows.
 abbrev pub LoadsBack : Catalogue → Type 0
-LoadsBack c = (plan : List ℕ) (capacity : ℕ) (calls : List Call) → MadeBy plan capacity calls c → All Possible calls
+LoadsBack c = (plan : List ℕ) (capacity : ℕ) (calls : List Call) → MadeBy plan capacity calls c → AllByRecursion Possible calls
     → (of_load plan capacity [] (saved_of (seen_of c)) ≡ None)
     × Same (registered plan capacity [] calls) (file_rows plan (saved_of (seen_of c)))
 

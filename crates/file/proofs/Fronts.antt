@@ -1,11 +1,9 @@
 -- The plan at the front of a file.
-use Rattle.std.proofs.Common.{◌≡◌, ℕ, suc, ◌+◌, ◌<◌, Bool, true, false, ◌&&◌, eqb, List, [], ◌∷◌, length, get_or, take, drop, Decides, sym, refl, ap, ◌∙◌, ap₂, arith}
-use Rattle.std.specs.Cmp.Lexicographic.{Matches}
+use Rattle.std.proofs.Common.{◌≡◌, ℕ, suc, ◌+◌, ◌<◌, Bool, true, false, ◌&&◌, eqb, List, [], ◌∷◌, length, get_or, take, drop, sym, refl, ap, ◌∙◌, ap₂, arith}
+use lib.Pointwise.{pointwise, bytes_decides}
 use Rattle.std.proofs.lemmas.List.{drop-drop}
-use Rattle.std.proofs.lemmas.Slice.Eq.{slice_eq-Decides}
 use Rattle.std.proofs.lemmas.Bool.{and_parts, and_from, eqb-true, eq-eqb, false≢true}
 use Rattle.rules.specs.File.{header, begins, body}
-use Rattle.std.proofs.lemmas.Bool.Decides.{Decides-eqb}
 
 -- a list begins with another where that is its front
 begins_from : (xs ys : List ℕ) → take (length xs) ys ≡ xs → begins xs ys ≡ true
@@ -28,7 +26,7 @@ header_parts plan (b ∷ file) h = refl
 -- s is what follows the first byte, as a program reads it
 module _ (plan file s : List ℕ) (h : 0 < length file) (e : get_or file 0 0 ≡ length plan) (q : s ≡ drop 1 file) where
   abbrev HasPlan : Bool → Type 0
-  HasPlan r = Matches (λ (a b : ℕ) (t : Bool). Decides t (a ≡ b)) (take (length plan) s) plan r
+  HasPlan r = pointwise eqb (take (length plan) s) plan ≡ r
 
   begins_is : begins (header plan) file ≡ begins plan s
   begins_is =
@@ -36,13 +34,13 @@ module _ (plan file s : List ℕ) (h : 0 < length file) (e : get_or file 0 0 ≡
       ∙ ap₂ (λ t xs. t && begins plan xs) (eq-eqb (length plan) (get_or file 0 0) (sym e)) (sym q)
 
   pub plan_there : HasPlan true → begins (header plan) file ≡ true
-  plan_there m = begins_is ∙ begins_from plan s ((slice_eq-Decides Decides-eqb (take (length plan) s) plan true m).0 refl)
+  plan_there m = begins_is ∙ begins_from plan s ((bytes_decides (take (length plan) s) plan).0 m)
 
   pub plan_not_there : HasPlan false → begins (header plan) file ≡ false
   plan_not_there m = begins_is ∙ not_there (begins plan s) refl
     where
       not_there : (t : Bool) → begins plan s ≡ t → t ≡ false
-      not_there true p = absurd (false≢true ((slice_eq-Decides Decides-eqb (take (length plan) s) plan false m).1 (begins_take plan s p)))
+      not_there true p = absurd (false≢true (sym m ∙ (bytes_decides (take (length plan) s) plan).1 (begins_take plan s p)))
       not_there false p = refl
 
   -- what follows the plan

@@ -1,6 +1,6 @@
 -- What is known of a file without fault, and of a row that is read from it.
 use Rattle.std.proofs.Common.{◌≡◌, ℕ, zero, suc, ◌-◌, ◌<◌, ◌≤◌, Bool, true, false, cond, ◌&&◌, eqb, ltb, leb, List, [], ◌∷◌, length, get_or, replicate, Some, None, Ok, sym, refl, ap, ◌∙◌, subst, arith}
-use Rattle.std.specs.List.{AllByRecursion as All}
+use Rattle.std.specs.List.{AllByRecursion}
 use Rattle.std.proofs.ByRecursion.{All-get_or, All-append}
 use Rattle.std.proofs.lemmas.List.{take_at, get_or_default}
 use Rattle.std.proofs.lemmas.Bool.{and_parts, ltb-true, leb-true, le-ltb}
@@ -71,21 +71,21 @@ module _ (plan file : List ℕ) (i : ℕ) (c : StoredClip) (r : row_at plan file
       let p = given_some (leb (length plan) 10 && (long && ltb i n)) (stored_as (get_or (file_rows plan file) i no_row)) c r in
       (ltb-true i n (and_parts long (ltb i n) (and_parts (leb (length plan) 10) (long && ltb i n) p.0).1).1, p.1)
 
-letters_small : (i : ℕ) (sizes v : List ℕ) → All (λ s. s ≤ 64) sizes → bad_letter (suc i) sizes v ≡ 0 → All (λ l. l < 64) v
+letters_small : (i : ℕ) (sizes v : List ℕ) → AllByRecursion (λ s. s ≤ 64) sizes → bad_letter (suc i) sizes v ≡ 0 → AllByRecursion (λ l. l < 64) v
 letters_small i sizes [] a e = tt
 letters_small i [] (l ∷ v) a e = absurd (omega arith)
 letters_small i (s ∷ sizes) (l ∷ v) a e = go (λ x. letters_small (suc i) sizes v a.1 x) (ltb l s) refl e
   where
-    go : (bad_letter (suc (suc i)) sizes v ≡ 0 → All (λ x. x < 64) v) → (t : Bool) → ltb l s ≡ t
-        → cond t (bad_letter (suc (suc i)) sizes v) (suc i) ≡ 0 → All (λ x. x < 64) (l ∷ v)
+    go : (bad_letter (suc (suc i)) sizes v ≡ 0 → AllByRecursion (λ x. x < 64) v) → (t : Bool) → ltb l s ≡ t
+        → cond t (bad_letter (suc (suc i)) sizes v) (suc i) ≡ 0 → AllByRecursion (λ x. x < 64) (l ∷ v)
     go more true t e = ((let k = ltb-true l s t in let b = a.0 in omega arith), more e)
     go more false t e = absurd (omega arith)
 
-zeros_small : (m : ℕ) → All (λ l. l < 64) (replicate m 0)
+zeros_small : (m : ℕ) → AllByRecursion (λ l. l < 64) (replicate m 0)
 zeros_small zero = tt
 zeros_small (suc m) = (omega arith, zeros_small m)
 
-all_small : (v : List ℕ) → All (λ l. l < 64) v → (k : ℕ) → get_or v k 0 < 64
+all_small : (v : List ℕ) → AllByRecursion (λ l. l < 64) v → (k : ℕ) → get_or v k 0 < 64
 all_small [] a k = omega arith
 all_small (l ∷ v) a zero = a.0
 all_small (l ∷ v) a (suc k) = all_small v a.1 k
@@ -110,26 +110,26 @@ module _ (plan file : List ℕ) (n i : ℕ) (c : StoredClip) (e : checked plan f
       omega arith
 
   -- all its ten letters are letters, where the sizes of the plan are at most 64
-  pub read_small : All (λ s. s ≤ 64) plan → (k : ℕ) → get_or c.letters k 0 < 64
+  pub read_small : AllByRecursion (λ s. s ≤ 64) plan → (k : ℕ) → get_or c.letters k 0 < 64
   read_small a =
       let row = get_or (file_rows plan file) i no_row in
-      all_small c.letters (subst (λ (x : StoredClip). All (λ l. l < 64) x.letters) (read_parts plan file i c r).1
+      all_small c.letters (subst (λ (x : StoredClip). AllByRecursion (λ l. l < 64) x.letters) (read_parts plan file i c r).1
       (All-append (λ l. l < 64) row.letters (replicate (10 - length row.letters) 0)
       (letters_small 0 plan row.letters a (row_good plan file n i e read_index)) (zeros_small (10 - length row.letters))))
 
 -- ---- a plan without fault has 1 to 10 sizes up to 64
-sizes_small : (i : ℕ) (sizes : List ℕ) → size_fault i sizes ≡ None → All (λ s. s ≤ 64) sizes
+sizes_small : (i : ℕ) (sizes : List ℕ) → size_fault i sizes ≡ None → AllByRecursion (λ s. s ≤ 64) sizes
 sizes_small i [] e = tt
 sizes_small i (s ∷ sizes) e = go (λ x. sizes_small (suc i) sizes x) (leb 1 s && leb s 64) refl e
   where
-    go : (size_fault (suc i) sizes ≡ None → All (λ x. x ≤ 64) sizes) → (t : Bool) → (leb 1 s && leb s 64) ≡ t
-        → cond t (size_fault (suc i) sizes) (Some (plan.Size i)) ≡ None → All (λ x. x ≤ 64) (s ∷ sizes)
+    go : (size_fault (suc i) sizes ≡ None → AllByRecursion (λ x. x ≤ 64) sizes) → (t : Bool) → (leb 1 s && leb s 64) ≡ t
+        → cond t (size_fault (suc i) sizes) (Some (plan.Size i)) ≡ None → AllByRecursion (λ x. x ≤ 64) (s ∷ sizes)
     go more true t e = (leb-true s 64 (and_parts (leb 1 s) (leb s 64) t).1, more e)
     go more false t e = absurd (let z : ◌≡◌ {A = ℕ} 0 1 = cc in omega arith)
 
-pub plan_small : (sizes : List ℕ) → plan_fault sizes ≡ None → All (λ s. s ≤ 64) sizes
+pub plan_small : (sizes : List ℕ) → plan_fault sizes ≡ None → AllByRecursion (λ s. s ≤ 64) sizes
 plan_small sizes e = go (dimensions (length sizes)) e
   where
-    go : (t : Bool) → cond t (size_fault 1 sizes) (Some plan.Dimensions) ≡ None → All (λ s. s ≤ 64) sizes
+    go : (t : Bool) → cond t (size_fault 1 sizes) (Some plan.Dimensions) ≡ None → AllByRecursion (λ s. s ≤ 64) sizes
     go true e = sizes_small 1 sizes e
     go false e = absurd (let z : ◌≡◌ {A = ℕ} 0 1 = cc in omega arith)

@@ -1,6 +1,6 @@
 -- The file of some clips, written part by part.
 use Rattle.std.proofs.Common.{◌≡◌, ℕ, suc, ◌+◌, ◌*◌, ◌/◌, ◌%◌, ◌<◌, ◌≤◌, true, ◌&&◌, leb, List, [], ◌∷◌, ◌++◌, length, get_or, take, drop, Some, sym, refl, ap, ◌∙◌, ap₂, mul-zero, zero-add, mul-suc, add-one, arith}
-use Rattle.std.specs.List.{AllByRecursion as All}
+use Rattle.std.specs.List.{AllByRecursion}
 use Rattle.std.proofs.lemmas.List.{append_assoc, length-append, length-map, length-take-le, map_more, flat_map_more, take_all}
 use Rattle.std.proofs.lemmas.Bool.{and_from, le-leb}
 use Rattle.space.specs.Boxes.{dimensions, given}
@@ -16,7 +16,7 @@ length_numbers : (rs : List Row) → length (number_bytes rs) ≡ 4 * length rs
 length_numbers [] = refl
 length_numbers (r ∷ rs) = let more = length_numbers rs in omega arith
 
-length_letters : (d : ℕ) (rs : List Row) → All (λ r. length r.letters ≡ d) rs → length (letter_bytes rs) ≡ d * length rs
+length_letters : (d : ℕ) (rs : List Row) → AllByRecursion (λ r. length r.letters ≡ d) rs → length (letter_bytes rs) ≡ d * length rs
 length_letters d [] a = sym (mul-zero d)
 length_letters d (r ∷ rs) a =
     let more = length_letters d rs a.1 in

@@ -1,6 +1,6 @@
 -- What holds of files that are checked, read and written.
 use Rattle.std.specs.Prelude.{◌≡◌, ℕ, ◌<◌, ◌≤◌, not, List, length, Some, Ok, Err, Option, Result, ◌==◌, nat_lt, slice_index_or}
-use Rattle.std.specs.List.{AllByRecursion as All}
+use Rattle.std.specs.List.{AllByRecursion}
 use Rattle.space.specs.Row.{Row, stored_row}
 use Rattle.space.specs.declared.clip.StoredClip.{StoredClip}
 use Rattle.rules.specs.Rows.{rising}
@@ -37,4 +37,4 @@ RowsRead = (plan file : List ℕ) (n i : ℕ) (none : Row) → length plan ≤ 1
 abbrev pub WrittenSaves : Type 0
 WrittenSaves =
     ((plan : List ℕ) (rows : List Row) → written plan (rising rows) ≡ saved plan rows)
-    × ((plan : List ℕ) (rows : List Row) → All (λ r. length r.letters ≡ length plan) rows → length (written plan rows) ≡ file_length (length plan) (length rows))
+    × ((plan : List ℕ) (rows : List Row) → AllByRecursion (λ r. length r.letters ≡ length plan) rows → length (written plan rows) ≡ file_length (length plan) (length rows))

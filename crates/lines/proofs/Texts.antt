@@ -1,6 +1,6 @@
 -- The texts that have fields.
 use Rattle.std.proofs.Common.{◌≡◌, ℕ, ◌+◌, ◌-◌, ◌*◌, ◌^◌, ◌<◌, ◌≤◌, Bool, true, false, cond, eqb, ltb, leb, List, [], ◌∷◌, ◌++◌, map, length, Some, None, Option, unwrap_or, sym, refl, ap, ◌∙◌, subst, ⊎_elim, arith}
-use Rattle.std.specs.List.{AllByRecursion as All}
+use Rattle.std.specs.List.{AllByRecursion}
 use Rattle.std.proofs.lemmas.Bool.{cases_Bool, eqb-true, lt-ltb, ltb-true, and_parts, leb-true, ne_eqb}
 use Rattle.lines.specs.Fields.{digit, fitting, longer, first, onward, fields_from, fields_of}
 use Rattle.lines.specs.LawsLines.{value_of, Field, spaced, FieldsLaw}
@@ -27,7 +27,7 @@ one_digit v b rest d h =
     ∙ ap (λ o. onward o (λ n. fields_from (Some n) rest)) (longer_by v b d h)
 
 -- the digits of a field, of which n is read
-digits_read : (n : ℕ) (bs rest : List ℕ) → All (λ b. digit b ≡ true) bs → extended n bs < 2 ^ 32
+digits_read : (n : ℕ) (bs rest : List ℕ) → AllByRecursion (λ b. digit b ≡ true) bs → extended n bs < 2 ^ 32
     → fields_from (Some n) (bs ++ rest) ≡ fields_from (Some (extended n bs)) rest
 digits_read n [] rest d h = ap (λ m. fields_from (Some m) rest) (sym (extended_none n))
 digits_read n (b ∷ bs) rest (d, ds) h =
@@ -49,11 +49,11 @@ field_read (b ∷ bs) rest ((d, ds), some, fits) =
     let more : extended m bs < 2 ^ 32 = omega arith in
     one_digit None b (bs ++ rest) d l ∙ digits_read m bs rest ds more ∙ ap (λ x. fields_from (Some x) rest) (e ∙ z)
 
-rest_read : (n : ℕ) (fs : List (List ℕ)) → All Field fs → fields_from (Some n) (spaced fs) ≡ Some (n ∷ map value_of fs)
+rest_read : (n : ℕ) (fs : List (List ℕ)) → AllByRecursion Field fs → fields_from (Some n) (spaced fs) ≡ Some (n ∷ map value_of fs)
 rest_read n [] h = refl
 rest_read n (f ∷ fs) (h, hs) = ap (first (Some n)) (field_read f (spaced fs) h ∙ rest_read (value_of f) fs hs)
 
-all_read : (fs : List (List ℕ)) → All Field fs → fields_of (spaced fs) ≡ Some (map value_of fs)
+all_read : (fs : List (List ℕ)) → AllByRecursion Field fs → fields_of (spaced fs) ≡ Some (map value_of fs)
 all_read [] h = refl
 all_read (f ∷ fs) (h, hs) = field_read f (spaced fs) h ∙ rest_read (value_of f) fs hs
 
@@ -88,10 +88,10 @@ record Split (v : Option ℕ) (bs ns : List ℕ) : Type 0 where
   digits : List ℕ
   fields : List (List ℕ)
   text : bs ≡ digits ++ spaced fields
-  good : All (λ b. digit b ≡ true) digits
+  good : AllByRecursion (λ b. digit b ≡ true) digits
   some : v ≡ None → 0 < length digits
   fits : extended (unwrap_or v 0) digits < 2 ^ 32
-  proper : All Field fields
+  proper : AllByRecursion Field fields
   values : ns ≡ extended (unwrap_or v 0) digits ∷ map value_of fields
 
 -- the first field begins right after its space: its digits are a field
@@ -151,7 +151,7 @@ split v (b ∷ bs) ns h e =
     at_digit v b p.0 bs ns q.0 q.1 (split (Some p.0) bs ns q.2 p.2))
     (cases_Bool (eqb b 32))
 
-only_read : (text ns : List ℕ) → fields_of text ≡ Some ns → (fs : List (List ℕ)) × All Field fs × (text ≡ spaced fs) × (map value_of fs ≡ ns)
+only_read : (text ns : List ℕ) → fields_of text ≡ Some ns → (fs : List (List ℕ)) × AllByRecursion Field fs × (text ≡ spaced fs) × (map value_of fs ≡ ns)
 only_read [] ns e = ([], tt, refl, cc)
 only_read (b ∷ bs) ns e =
     ⊎_elim

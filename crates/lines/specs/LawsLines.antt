@@ -1,12 +1,12 @@
 -- What lines and fields are, said of the text and not of how it is read.
 use Rattle.std.specs.Prelude.{◌≡◌, ℕ, ◌+◌, ◌-◌, ◌*◌, ◌^◌, ◌<◌, true, List, [], ◌∷◌, ◌++◌, map, length, Some, MatchOption, ◌≢◌}
-use Rattle.std.specs.List.{AllByRecursion as All}
+use Rattle.std.specs.List.{AllByRecursion}
 use Rattle.lines.specs.Lines.{line_of, rest_of}
 use Rattle.lines.specs.Fields.{digit, fields_of}
 
 -- no line feed
 abbrev pub Plain : List ℕ → Type 0
-Plain bs = All (λ b. b ≢ 10) bs
+Plain bs = AllByRecursion (λ b. b ≢ 10) bs
 
 -- a text is its first line, a line feed and the rest, or its first line alone, and the line has no line feed
 abbrev pub LinesLaw : Type 0
@@ -20,7 +20,7 @@ value_of (b ∷ bs) = (b - 48) * 10 ^ length bs + value_of bs
 
 -- a field: one digit or more, of a value that 32 bits hold
 abbrev pub Field : List ℕ → Type 0
-Field bs = All (λ b. digit b ≡ true) bs × (0 < length bs) × (value_of bs < 2 ^ 32)
+Field bs = AllByRecursion (λ b. digit b ≡ true) bs × (0 < length bs) × (value_of bs < 2 ^ 32)
 
 -- some fields, one space before each
 abbrev pub spaced : List (List ℕ) → List ℕ
@@ -30,5 +30,5 @@ spaced (f ∷ fs) = 32 ∷ (f ++ spaced fs)
 -- The values of some fields are read from the fields with a space before each, and from no other text.
 abbrev pub FieldsLaw : Type 0
 FieldsLaw =
-    ((fs : List (List ℕ)) → All Field fs → fields_of (spaced fs) ≡ Some (map value_of fs))
-    × ((text ns : List ℕ) → fields_of text ≡ Some ns → (fs : List (List ℕ)) × All Field fs × (text ≡ spaced fs) × (map value_of fs ≡ ns))
+    ((fs : List (List ℕ)) → AllByRecursion Field fs → fields_of (spaced fs) ≡ Some (map value_of fs))
+    × ((text ns : List ℕ) → fields_of text ≡ Some ns → (fs : List (List ℕ)) × AllByRecursion Field fs × (text ≡ spaced fs) × (map value_of fs ≡ ns))

@@ -1,6 +1,6 @@
 -- What `place` does to a list, for any test of standing before.
 use Rattle.std.proofs.Common.{◌≡◌, ℕ, zero, suc, ◌≤◌, Bool, true, false, cond, List, [], ◌∷◌, map, length, take, refl, ap, arith}
-use Rattle.std.specs.List.{insert, AllByRecursion as All}
+use Rattle.std.specs.List.{insert, AllByRecursion}
 use Rattle.std.proofs.lemmas.List.{take-take}
 use Rattle.ranked.specs.Rank.{place, rank_of}
 use Rattle.ranked.specs.Same.{Same, keep, turn, then}
@@ -49,7 +49,7 @@ module _ {X : Type 0} (before : X → X → Bool) where
       [ true ↦ ap (λ l. e ∷ l) (take_cons_cut n x xs) | false ↦ ap (λ l. x ∷ l) more ]
 
   -- an entry that stands before none of a list goes past it
-  pub place_past : (n : ℕ) (e : X) (xs : List X) → n ≤ length xs → All (λ x. before e x ≡ false) xs → take n (place before e xs) ≡ take n xs
+  pub place_past : (n : ℕ) (e : X) (xs : List X) → n ≤ length xs → AllByRecursion (λ x. before e x ≡ false) xs → take n (place before e xs) ≡ take n xs
   place_past zero e xs h all = refl
   place_past (suc n) e [] h all = absurd (let z : suc n ≤ 0 = h in omega arith)
   place_past (suc n) e (x ∷ xs) h all =

@@ -1,6 +1,6 @@
 -- The ranking of a list: it does not turn on the order of the list, and a cut loses nothing.
 use Rattle.std.proofs.Common.{◌≡◌, ℕ, zero, suc, ◌≤◌, Bool, true, false, cond, List, [], ◌∷◌, ◌++◌, map, length, take, sym, refl, ap, ◌∙◌, arith}
-use Rattle.std.specs.List.{AllByRecursion as All}
+use Rattle.std.specs.List.{AllByRecursion}
 use Rattle.std.proofs.lemmas.Bool.{both_ways}
 use Rattle.std.proofs.lemmas.List.{length-take, length-take-le, take-take, take_all, append-nil}
 use Rattle.std.proofs.ByRecursion.{All-weaker, All-take}
@@ -21,7 +21,7 @@ module _ {X : Type 0} (before : X → X → Bool) where
 
   -- what cannot come among the first n may be left out
   pub ranked_past : (n : ℕ) (ys xs : List X) → n ≤ length (ranked before xs)
-      → All (λ y. All (λ x. before y x ≡ false) (take n (ranked before xs))) ys → take n (ranked before (ys ++ xs)) ≡ take n (ranked before xs)
+      → AllByRecursion (λ y. AllByRecursion (λ x. before y x ≡ false) (take n (ranked before xs))) ys → take n (ranked before (ys ++ xs)) ≡ take n (ranked before xs)
   ranked_past n [] xs h all = refl
   ranked_past n (y ∷ ys) xs h all =
       let l = ranked before xs in
@@ -93,7 +93,7 @@ module _ {X : Type 0} (before : X → X → Bool) (order : Order before) where
 -- ---- where two that tie are one value
 module _ {X : Type 0} (before : X → X → Bool) (tie : Tie before) where
   -- an entry that none stands before comes first
-  pub place_front : (x : X) (xs : List X) → All (λ y. before y x ≡ false) xs → place before x xs ≡ x ∷ xs
+  pub place_front : (x : X) (xs : List X) → AllByRecursion (λ y. before y x ≡ false) xs → place before x xs ≡ x ∷ xs
   place_front x [] h = refl
   place_front x (y ∷ ys) h = go (place_front x ys h.1) (before x y) refl
     where

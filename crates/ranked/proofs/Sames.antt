@@ -1,6 +1,6 @@
 -- Lists with the same elements, each as often.
 use Rattle.std.proofs.Common.{◌≡◌, ℕ, suc, List, [], ◌∷◌, ◌++◌, map, length, sum_by, sym, refl, ap, ◌∙◌, subst, arith}
-use Rattle.std.specs.List.{ContainsAt as Has, flat_map, AllByRecursion as All}
+use Rattle.std.specs.List.{ContainsAt as Has, flat_map, AllByRecursion}
 use Rattle.std.proofs.ByRecursion.{all-has, all_has_itself}
 use Rattle.std.proofs.lemmas.List.{append-nil, append_assoc}
 use Rattle.std.proofs.lemmas.List.Sums.{sum_by-cons}
@@ -62,7 +62,7 @@ length_same (keep s) = ap suc (length_same s)
 length_same turn = refl
 length_same (then s t) = length_same s ∙ length_same t
 
-pub all_same : {X : Type 0} (P : X → Type 0) {xs ys : List X} → Same xs ys → All P xs → All P ys
+pub all_same : {X : Type 0} (P : X → Type 0) {xs ys : List X} → Same xs ys → AllByRecursion P xs → AllByRecursion P ys
 all_same P none a = tt
 all_same P (keep s) a = (a.0, all_same P s a.1)
 all_same P turn a = (a.1.0, (a.0, a.1.1))

@@ -1,7 +1,7 @@
 -- A list of numbers that was sorted is the ranking of what it was.
 use Rattle.std.proofs.Common.{◌≡◌, ℕ, suc, ◌<◌, false, cond, eqb, ltb, List, [], ◌∷◌, get_or, sum_by, sym, refl, ap, ◌∙◌, ap₂, ⊎_elim, arith}
 use Rattle.std.specs.List.Sorted.{IsPermutation, IsNonDecreasing}
-use Rattle.std.specs.List.{AllByRecursion as All}
+use Rattle.std.specs.List.{AllByRecursion}
 use Rattle.std.proofs.ByRecursion.{All-from_get_or}
 use Rattle.std.proofs.lemmas.List.Sorted.{sum_by-IsPermutation}
 use Rattle.std.proofs.lemmas.List.Sums.{sum_by-cons}
@@ -17,7 +17,7 @@ is v x = cond (eqb x v) 1 0
 is_self : (v : ℕ) → is v v ≡ 1
 is_self v = ap (λ t. cond t 1 0) (eq-eqb v v refl)
 
-none_above : (v x : ℕ) (xs : List ℕ) → v < x → All (λ y. ltb y x ≡ false) xs → sum_by (is v) xs ≡ 0
+none_above : (v x : ℕ) (xs : List ℕ) → v < x → AllByRecursion (λ y. ltb y x ≡ false) xs → sum_by (is v) xs ≡ 0
 none_above v x [] h a = refl
 none_above v x (y ∷ ys) h a =
     let up = ltb-false y x a.0 in
@@ -29,7 +29,7 @@ abbrev Alike : List ℕ → List ℕ → Type 0
 Alike xs ys = (v : ℕ) → sum_by (is v) xs ≡ sum_by (is v) ys
 
 -- of two such lists in rank neither begins with the lower number
-first_least_lem : (x y : ℕ) (xs ys : List ℕ) → All (λ z. ltb z y ≡ false) ys → Alike (x ∷ xs) (y ∷ ys) → x < y → ⊥
+first_least_lem : (x y : ℕ) (xs ys : List ℕ) → AllByRecursion (λ z. ltb z y ≡ false) ys → Alike (x ∷ xs) (y ∷ ys) → x < y → ⊥
 first_least_lem x y xs ys a e h =
     let z : is x y ≡ 0 = ap (λ t. cond t 1 0) (ne_eqb y x (λ e. omega arith)) in
     omega (arith, e x, sum_by-cons (is x) x xs, sum_by-cons (is x) y ys, none_above x y ys h a, is_self x, z)

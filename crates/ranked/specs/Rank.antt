@@ -1,6 +1,6 @@
 -- Lists in rank: where an entry goes, and what the ranking of a list is.
 use Rattle.std.specs.Prelude.{◌≡◌, ℕ, suc, Bool, true, false, cond, List, [], ◌∷◌, take}
-use Rattle.std.specs.List.{AllByRecursion as All}
+use Rattle.std.specs.List.{AllByRecursion}
 
 -- A test of standing before is an order: of two at most one stands before the other, and where x does not stand before y nor y before z, x does
 -- not stand before z.
@@ -30,7 +30,7 @@ ranked before (x ∷ xs) = place before x (ranked before xs)
 -- in rank: no element stands before one to its left
 abbrev pub InRank : {X : Type 0} → (X → X → Bool) → List X → Type 0
 InRank before [] = Unit {0}
-InRank before (x ∷ xs) = All (λ y. before y x ≡ false) xs × InRank before xs
+InRank before (x ∷ xs) = AllByRecursion (λ y. before y x ≡ false) xs × InRank before xs
 
 -- entries that come one after another into a list that keeps its first cap elements each time
 abbrev pub keep_first : {X : Type 0} → (X → X → Bool) → ℕ → List X → List X → List X

@@ -1,6 +1,6 @@
 -- What a call that is not refused was checked for, and that its answer does not turn on the order of the rows.
 use Rattle.std.proofs.Common.{◌≡◌, ℕ, ◌*◌, ◌<◌, ◌≤◌, true, false, not, ◌||◌, eqb, ltb, leb, List, length, None, ap, ap₂, arith}
-use Rattle.std.specs.List.{AllByRecursion as All}
+use Rattle.std.specs.List.{AllByRecursion}
 use Rattle.std.proofs.lemmas.Bool.{not-false, eqb-true, eqb-false, leb-false}
 use Rattle.ranked.specs.Same.{Same}
 use Rattle.ranked.proofs.Sames.{length_same}
@@ -42,7 +42,7 @@ withdraw_open rows n words e =
     not-false (lists n rows) (when_none (not (lists n rows)) 22 b.0)
 
 pub load_open : (plan : List ℕ) (capacity : ℕ) (rows : List Row) (file : List ℕ) → of_load plan capacity rows file ≡ None
-    → All (Proper plan) (file_rows plan file) × Single (file_rows plan file) × (length (file_rows plan file) ≤ capacity) × (length rows ≡ 0)
+    → AllByRecursion (Proper plan) (file_rows plan file) × Single (file_rows plan file) × (length (file_rows plan file) ≤ capacity) × (length rows ≡ 0)
 load_open plan capacity rows file e =
     let c = none_checked plan capacity rows file e in
     let rs = file_rows plan file in

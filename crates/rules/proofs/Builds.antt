@@ -1,6 +1,6 @@
 -- What entering a clip does to the build.
 use Rattle.std.proofs.Common.{◌≡◌, ℕ, zero, suc, ◌+◌, ◌<◌, ◌≤◌, true, false, cond, List, [], ◌∷◌, ◌++◌, map, length, set, Some, None, Option, sym, refl, ap, ◌∙◌, subst, ⊎_elim, arith, length-set}
-use Rattle.std.specs.List.{AllByRecursion as All}
+use Rattle.std.specs.List.{AllByRecursion}
 use Rattle.std.proofs.lemmas.List.{length-map, length-append, length_push}
 use Rattle.std.proofs.ByRecursion.{All-append, All-set, All-get_or, All-push}
 use Rattle.std.proofs.lemmas.Bool.{cases_lt, le-leb, lt-leb, cond_both}
@@ -17,13 +17,13 @@ abbrev pub Good : ℕ → (h : ℕ) → Entry h → Type 0
 Good d zero r = Unit {0}
 Good d (suc h) b = (3 ≤ length b.entries) × (length b.entries ≤ 8) × Smallest d h b × Below d h b.entries
 
-pub good_all : (d h : ℕ) (es : List (Entry h)) → Below d h es → All (Good d h) es
+pub good_all : (d h : ℕ) (es : List (Entry h)) → Below d h es → AllByRecursion (Good d h) es
 good_all d zero [] b = tt
 good_all d zero (e ∷ es) b = (tt, good_all d zero es tt)
 good_all d (suc h) [] b = tt
 good_all d (suc h) (e ∷ es) b = ((b.0, b.1, b.2, b.3), good_all d (suc h) es b.4)
 
-pub good_below : (d h : ℕ) (es : List (Entry h)) → All (Good d h) es → Below d h es
+pub good_below : (d h : ℕ) (es : List (Entry h)) → AllByRecursion (Good d h) es → Below d h es
 good_below d zero es g = tt
 good_below d (suc h) [] g = tt
 good_below d (suc h) (e ∷ es) g = (g.0.0, g.0.1, g.0.2, g.0.3, good_below d (suc h) es g.1)
@@ -61,10 +61,10 @@ Second d h n a (Some b) = (3 ≤ length a.entries) × Good d (suc h) b
 pub record Made (d h n : ℕ) (g : Grown h) : Type 0 where
   pub smallest : Smallest d h g.0
   pub most : length g.0.entries ≤ 8
-  pub good : All (Good d h) g.0.entries
+  pub good : AllByRecursion (Good d h) g.0.entries
   pub sizes : Second d h n g.0 g.1
 
-pub parted_made : (d h : ℕ) (es : List (Entry h)) (n code : ℕ) → length es ≡ 9 → Code code → All (Good d h) es → Made d h n (parted d h es code)
+pub parted_made : (d h : ℕ) (es : List (Entry h)) (n code : ℕ) → length es ≡ 9 → Code code → AllByRecursion (Good d h) es → Made d h n (parted d h es code)
 parted_made d h es n code nine c g =
     let a = group_few code es nine c false in
     let b = group_few code es nine c true in
@@ -75,7 +75,7 @@ parted_made d h es n code nine c g =
       sizes = (a.0, (b.0, omega (arith, b.1), refl, good_below d h (group true code es) (all_group (Good d h) true code es g)));
     }
 
-pub fitted_made : (d h n : ℕ) (es : List (Entry h)) → length es ≤ 9 → n ≤ length es → All (Good d h) es → Made d h n (fitted d h es)
+pub fitted_made : (d h n : ℕ) (es : List (Entry h)) → length es ≤ 9 → n ≤ length es → AllByRecursion (Good d h) es → Made d h n (fitted d h es)
 fitted_made d h n es l k g =
     fitted_by d h es (Made d h n) l
     (λ m. record { smallest = refl; most = m; good = g; sizes = k })
@@ -100,7 +100,7 @@ chosen_below h es v l =
     subst (λ m. chosen (map (sets_of h) es) v < m) n (chosen_at (map (sets_of h) es) v (length (map (sets_of h) es)) refl some)
 
 -- ---- one step up: the child at p became g
-child_good : (d h n : ℕ) (a : Box (Entry h)) (x : Option (Box (Entry h))) → 3 ≤ n → Made d h n (a, x) → Good d (suc h) a × All (Good d (suc h)) (extra x)
+child_good : (d h n : ℕ) (a : Box (Entry h)) (x : Option (Box (Entry h))) → 3 ≤ n → Made d h n (a, x) → Good d (suc h) a × AllByRecursion (Good d (suc h)) (extra x)
 child_good d h n a None l m = ((omega (arith, m.sizes), m.most, m.smallest, good_below d h a.entries m.good), tt)
 child_good d h n a (Some b) l m = ((m.sizes.0, m.most, m.smallest, good_below d h a.entries m.good), (m.sizes.1, tt))
 
@@ -111,7 +111,7 @@ length_extra (Some e) = omega arith
 pub up_long : {E : Type 0} (es : List E) (p : ℕ) (a : E) (x : Option E) → length (set es p a ++ extra x) ≡ length es + length (extra x)
 up_long es p a x = length-append (set es p a) (extra x) ∙ ap (λ n. n + length (extra x)) (length-set es p a)
 
-up_made : (d h : ℕ) (es : List (Entry (suc h))) (p : ℕ) (g : Grown h) → length es ≤ 8 → p < length es → All (Good d (suc h)) es
+up_made : (d h : ℕ) (es : List (Entry (suc h))) (p : ℕ) (g : Grown h) → length es ≤ 8 → p < length es → AllByRecursion (Good d (suc h)) es
     → Made d h (length (entries_at h es p)) g → Made d (suc h) (length es) (fitted d (suc h) (set es p g.0 ++ extra g.1))
 up_made d h es p g l in-es all m =
     let c = All-get_or (Good d (suc h)) es p (bare h) in-es all in
@@ -130,7 +130,7 @@ pub some_three : (h : ℕ) (es : List (Entry h)) → 3 ≤ length es → SomeOf 
 some_three zero es l = tt
 some_three (suc h) es l = omega arith
 
-pub enter_made : (d h : ℕ) (es : List (Entry h)) (r : Row) → length es ≤ 8 → SomeOf h es → All (Good d h) es → Made d h (length es) (enter_below d h es r)
+pub enter_made : (d h : ℕ) (es : List (Entry h)) (r : Row) → length es ≤ 8 → SomeOf h es → AllByRecursion (Good d h) es → Made d h (length es) (enter_below d h es r)
 enter_made d zero es r l some g =
     let long : length (es ++ r ∷ []) ≡ length es + 1 = length_push es r in
     fitted_made d zero (length es) (es ++ r ∷ []) (omega arith) (omega arith) (All-push (Good d zero) es r g tt)

@@ -1,6 +1,6 @@
 -- The file of a catalogue: what is saved is read back, and what is read was saved.
 use Rattle.std.proofs.Common.{◌≡◌, ℕ, zero, suc, ◌+◌, ◌*◌, ◌<◌, ◌≤◌, Bool, true, false, cond, eqb, ltb, List, [], ◌∷◌, ◌++◌, length, take, drop, Some, None, sym, refl, ap, ◌∙◌, subst, ap₂, mul-zero, mul-suc, arith}
-use Rattle.std.specs.List.{AllByRecursion as All}
+use Rattle.std.specs.List.{AllByRecursion}
 use Rattle.std.proofs.lemmas.List.{append_assoc, length-append, length-take-le, length-drop, take_at, drop_at, drop-drop, take-append-drop, nil_from_length}
 use Rattle.std.proofs.ByRecursion.{All-weaker, All-drop}
 use Rattle.std.proofs.lemmas.Bool.{and_parts, and_from, eqb-true, eq-eqb, ltb-true, ltb-false, lt-ltb, le-ltb, or_from, or_parts, not-false, not_from_true, cond-true}
@@ -21,13 +21,13 @@ length_numbers : (rs : List Row) → length (number_bytes rs) ≡ 4 * length rs
 length_numbers [] = refl
 length_numbers (r ∷ rs) = let more = length_numbers rs in omega arith
 
-length_letters : (d : ℕ) (rs : List Row) → All (λ r. length r.letters ≡ d) rs → length (letter_bytes rs) ≡ d * length rs
+length_letters : (d : ℕ) (rs : List Row) → AllByRecursion (λ r. length r.letters ≡ d) rs → length (letter_bytes rs) ≡ d * length rs
 length_letters d [] a = sym (mul-zero d)
 length_letters d (r ∷ rs) a =
     let more = length_letters d rs a.1 in
     omega (arith, length-append r.letters (letter_bytes rs), a.0, mul-suc d (length rs))
 
-rows_back : (d : ℕ) (rs : List Row) (rest : List ℕ) → All (FitsFile d) rs → rows_from (length rs) d (number_bytes rs ++ rest) (letter_bytes rs) ≡ rs
+rows_back : (d : ℕ) (rs : List Row) (rest : List ℕ) → AllByRecursion (FitsFile d) rs → rows_from (length rs) d (number_bytes rs ++ rest) (letter_bytes rs) ≡ rs
 rows_back d [] rest a = refl
 rows_back d (r ∷ rs) rest a =
     let row : ℕ → List ℕ → Row = λ n l. record { number = n; letters = l } in
@@ -68,7 +68,7 @@ begins_split (x ∷ xs) (y ∷ ys) h =
 
 -- the numbers rise from above the last one on
 abbrev pub Above : ℕ → List Row → Type 0
-Above last rs = All (λ r. last < r.number) rs × Rises lower rs
+Above last rs = AllByRecursion (λ r. last < r.number) rs × Rises lower rs
 
 above_good : (i last : ℕ) (rs : List Row) → Above last rs → bad_number i last rs ≡ None
 above_good i last [] u = refl
@@ -91,13 +91,13 @@ good_above i last (r ∷ rs) e = go (λ (x : bad_number (suc i) r.number rs ≡ 
         )
     go more false t e = absurd (some_none (refused_at 7 0 i) e)
 
-rows_good : (i : ℕ) (plan : List ℕ) (rs : List Row) → All (λ r. bad_letter 1 plan r.letters ≡ 0) rs → bad_row i plan rs ≡ None
+rows_good : (i : ℕ) (plan : List ℕ) (rs : List Row) → AllByRecursion (λ r. bad_letter 1 plan r.letters ≡ 0) rs → bad_row i plan rs ≡ None
 rows_good i plan [] a = refl
 rows_good i plan (r ∷ rs) a =
     none_else (when_at 9 (bad_letter 1 plan r.letters) i) (bad_row (suc i) plan rs) (none_when_at 9 (bad_letter 1 plan r.letters) i a.0)
     (rows_good (suc i) plan rs a.1)
 
-good_rows : (i : ℕ) (plan : List ℕ) (rs : List Row) → bad_row i plan rs ≡ None → All (λ r. bad_letter 1 plan r.letters ≡ 0) rs
+good_rows : (i : ℕ) (plan : List ℕ) (rs : List Row) → bad_row i plan rs ≡ None → AllByRecursion (λ r. bad_letter 1 plan r.letters ≡ 0) rs
 good_rows i plan [] e = tt
 good_rows i plan (r ∷ rs) e =
     let p = else_none (when_at 9 (bad_letter 1 plan r.letters) i) (bad_row (suc i) plan rs) e in
@@ -109,7 +109,7 @@ pub record Checked (plan : List ℕ) (capacity : ℕ) (rows : List Row) (file : 
   pub starts : begins (header plan) file ≡ true
   pub long : length (body plan file) ≡ body_length (length plan) (announced plan file)
   pub numbers : Above 0 (file_rows plan file)
-  pub letters : All (λ r. bad_letter 1 plan r.letters ≡ 0) (file_rows plan file)
+  pub letters : AllByRecursion (λ r. bad_letter 1 plan r.letters ≡ 0) (file_rows plan file)
   pub room : announced plan file ≤ capacity
   pub new : length rows ≡ 0
 
@@ -159,7 +159,7 @@ saved_loads plan capacity rows a once l room =
     let d = length plan in
     let rest = number_bytes rs ++ letter_bytes rs in
     let file = header plan ++ (bytes_of 2 n ++ rest) in
-    let good : All (PossibleRow plan) rs = all_same (PossibleRow plan) (rising_same rows) a in
+    let good : AllByRecursion (PossibleRow plan) rs = all_same (PossibleRow plan) (rising_same rows) a in
     let h : n < 65536 = omega arith in
     let reads : file_rows plan file ≡ rs = saved_reads plan rows (All-weaker (PossibleRow plan) (FitsFile d) (λ r p. (p.0, p.1.1)) rows a) l in
     let many : announced plan file ≡ n = announced_is plan n rest h in
@@ -174,7 +174,7 @@ saved_loads plan capacity rows a once l room =
           subst (Above 0) (sym reads)
           (All-weaker (PossibleRow plan) (λ r. 0 < r.number) (λ r p. p.1.0) rs good, rising_rises rows once);
       letters =
-          subst (All (λ r. bad_letter 1 plan r.letters ≡ 0)) (sym reads)
+          subst (AllByRecursion (λ r. bad_letter 1 plan r.letters ≡ 0)) (sym reads)
           (All-weaker (PossibleRow plan) (λ r. bad_letter 1 plan r.letters ≡ 0) (λ r p. p.1.2) rs good);
       room = subst (λ m. m ≤ capacity) (sym many) (omega arith);
       new = refl;
@@ -207,7 +207,7 @@ letters_back zero d N L e = sym (nil_from_length L (e ∙ mul-zero d))
 letters_back (suc n) d N L e =
     ap (λ x. take d L ++ x) (letters_back n d (drop 4 N) (drop d L) (let m = length-drop d L in let s = mul-suc d n in omega arith)) ∙ take-append-drop d L
 
-rows_from_fit : (n d : ℕ) (N L : List ℕ) → Bytes N → 4 * n ≤ length N → length L ≡ d * n → All (FitsFile d) (rows_from n d N L)
+rows_from_fit : (n d : ℕ) (N L : List ℕ) → Bytes N → 4 * n ≤ length N → length L ≡ d * n → AllByRecursion (FitsFile d) (rows_from n d N L)
 rows_from_fit zero d N L a h e = tt
 rows_from_fit (suc n) d N L a h e =
     let s = mul-suc d n in (
@@ -219,7 +219,7 @@ rows_from_fit (suc n) d N L a h e =
 parts_long : (d n : ℕ) (b : List ℕ) → length b ≡ body_length d n → (2 ≤ length b) × (4 * n ≤ length (drop 2 b)) × (length (drop (2 + 4 * n) b) ≡ d * n)
 parts_long d n b e = let p = length-drop 2 b in let q = length-drop (2 + 4 * n) b in (omega arith, omega arith, omega arith)
 
-rows_from_long : (n d : ℕ) (N L : List ℕ) → length L ≡ d * n → All (λ r. length r.letters ≡ d) (rows_from n d N L)
+rows_from_long : (n d : ℕ) (N L : List ℕ) → length L ≡ d * n → AllByRecursion (λ r. length r.letters ≡ d) (rows_from n d N L)
 rows_from_long zero d N L e = tt
 rows_from_long (suc n) d N L e =
     let s = mul-suc d n in
@@ -227,7 +227,7 @@ rows_from_long (suc n) d N L e =
 
 -- the rows of a file that is not refused have d letters, and are no more than the capacity
 module _ (plan : List ℕ) (capacity : ℕ) (rows : List Row) (file : List ℕ) (c : Checked plan capacity rows file) where
-  pub checked_long : All (λ r. length r.letters ≡ length plan) (file_rows plan file)
+  pub checked_long : AllByRecursion (λ r. length r.letters ≡ length plan) (file_rows plan file)
   checked_long =
       let n = announced plan file in
       rows_from_long n (length plan) (drop 2 (body plan file)) (drop (2 + 4 * n) (body plan file)) (parts_long (length plan) n (body plan file) c.long).2
@@ -266,8 +266,8 @@ loaded_proper plan capacity rows file a ok =
     let rs = file_rows plan file in
     let sizes = parts_long d n b c.long in
     let bytes : Bytes b = All-drop (λ x. x < 256) (suc d) file a in
-    let fit : All (FitsFile d) rs = rows_from_fit n d (drop 2 b) (drop (2 + 4 * n) b) (All-drop (λ x. x < 256) 2 b bytes) sizes.1 sizes.2 in
-    let listed : All (λ r. (0 < r.number) × (bad_letter 1 plan r.letters ≡ 0)) rs =
+    let fit : AllByRecursion (FitsFile d) rs = rows_from_fit n d (drop 2 b) (drop (2 + 4 * n) b) (All-drop (λ x. x < 256) 2 b bytes) sizes.1 sizes.2 in
+    let listed : AllByRecursion (λ r. (0 < r.number) × (bad_letter 1 plan r.letters ≡ 0)) rs =
     all_both (λ r. 0 < r.number) (λ r. bad_letter 1 plan r.letters ≡ 0) (λ r. (0 < r.number) × (bad_letter 1 plan r.letters ≡ 0))
     (λ r x y. (x, y)) rs c.numbers.0 c.letters in (
       all_both (FitsFile d) (λ r. (0 < r.number) × (bad_letter 1 plan r.letters ≡ 0)) (PossibleRow plan) (λ r x y. (x.0, (y.0, x.1, y.1))) rs fit listed,

@@ -1,7 +1,7 @@
 -- The two groups of a division.
 use Rattle.std.proofs.Common.{◌≡◌, ℕ, zero, suc, ◌+◌, ◌*◌, ◌/◌, ◌%◌, ◌^◌, ◌<◌, ◌≤◌, Bool, true, false, cond, not, ◌&&◌, eqb, leb, List, [], ◌∷◌, ◌++◌, map, length, sym, refl, ap, ◌∙◌, subst, pow-suc, div-one, arith, lit<}
 use lib.Count.{ones, ones_step}
-use Rattle.std.specs.List.{AllByRecursion as All}
+use Rattle.std.specs.List.{AllByRecursion}
 use Rattle.std.proofs.lemmas.Bool.{and_parts, leb-true, eqb-true, eqb-false, ne_eqb, cond_both}
 use Rattle.space.specs.Boxes.{has}
 use Rattle.rules.specs.Choice.{less}
@@ -39,9 +39,9 @@ group_map f b c (e ∷ es) = ap (λ r. cond (alike b (has c 0)) (f e ∷ r) r) (
     go true = refl
     go false = refl
 
-pub all_group : {E : Type 0} (P : E → Type 0) (b : Bool) (c : ℕ) (es : List E) → All P es → All P (group b c es)
+pub all_group : {E : Type 0} (P : E → Type 0) (b : Bool) (c : ℕ) (es : List E) → AllByRecursion P es → AllByRecursion P (group b c es)
 all_group P b c [] a = tt
-all_group P b c (e ∷ es) a = let more = all_group P b (c / 2) es a.1 in cond_both (alike b (has c 0)) (e ∷ group b (c / 2) es) (group b (c / 2) es) (All P) (λ _. (a.0, more)) (λ _. more)
+all_group P b c (e ∷ es) a = let more = all_group P b (c / 2) es a.1 in cond_both (alike b (has c 0)) (e ∷ group b (c / 2) es) (group b (c / 2) es) (AllByRecursion P) (λ _. (a.0, more)) (λ _. more)
 
 pub group_same : {E : Type 0} (c : ℕ) (es : List E) → Same (group false c es ++ group true c es) es
 group_same c [] = none

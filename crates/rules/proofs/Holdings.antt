@@ -1,6 +1,6 @@
 -- The boxes of a build are boxes and hold the rows below, so that a measure's floor rule holds of them.
 use Rattle.std.proofs.Common.{◌≡◌, ℕ, zero, suc, true, List, [], ◌∷◌, map, length, replicate, Option, sym, ap, ◌∙◌, subst}
-use Rattle.std.specs.List.{AllByRecursion as All}
+use Rattle.std.specs.List.{AllByRecursion}
 use Rattle.std.proofs.lemmas.List.{length-replicate}
 use Rattle.std.proofs.ByRecursion.{All-append, All-weaker}
 use Rattle.std.proofs.lemmas.Bool.{and_from}
@@ -18,8 +18,8 @@ use Rattle.rules.proofs.Alls.{all_both, all_front, all_back}
 
 -- ---- each row lies in the sets of each box above it
 module _ (d : ℕ) where
-  rows_joined : (h : ℕ) (es : List (Entry h)) (a : List ℕ) → length a ≡ d → Below d h es → All (Vector d) (rows_below h es)
-      → All (Lies (joined a (map (sets_of h) es))) (rows_below h es)
+  rows_joined : (h : ℕ) (es : List (Entry h)) (a : List ℕ) → length a ≡ d → Below d h es → AllByRecursion (Vector d) (rows_below h es)
+      → AllByRecursion (Lies (joined a (map (sets_of h) es))) (rows_below h es)
   rows_joined zero [] a e b s = tt
   rows_joined zero (r ∷ rs) a e b s =
       let p = point r.letters in (
@@ -33,8 +33,8 @@ module _ (d : ℕ) where
       let others = rows_below (suc h) cs in
       let whole : c.sets ≡ around d (map (sets_of h) c.entries) = b.2 in
       let long : length c.sets ≡ d = ap length whole ∙ length_around d (map (sets_of h) c.entries) in
-      let inner : All (Lies c.sets) here =
-      subst (λ x. All (Lies x) here) (sym whole)
+      let inner : AllByRecursion (Lies c.sets) here =
+      subst (λ x. AllByRecursion (Lies x) here) (sym whole)
       (rows_joined h c.entries (replicate d 0) (length-replicate d 0) b.3 (all_front (Vector d) here others s)) in
       let wide = joined (join a c.sets) (map (sets_of (suc h)) cs) in
       All-append (Lies wide) here others
@@ -42,30 +42,30 @@ module _ (d : ℕ) where
       (λ r i. in_joined_first r.letters (join a c.sets) (map (sets_of (suc h)) cs) (in_join_right r.letters a c.sets (e ∙ sym long) i)) here inner)
       (rows_joined (suc h) cs (join a c.sets) (length_join a c.sets ∙ e) b.4 (all_back (Vector d) here others s))
 
-  pub rows_around : (h : ℕ) (es : List (Entry h)) → Below d h es → All (Vector d) (rows_below h es)
-      → All (Lies (around d (map (sets_of h) es))) (rows_below h es)
+  pub rows_around : (h : ℕ) (es : List (Entry h)) → Below d h es → AllByRecursion (Vector d) (rows_below h es)
+      → AllByRecursion (Lies (around d (map (sets_of h) es))) (rows_below h es)
   rows_around h es b s = rows_joined h es (replicate d 0) (length-replicate d 0) b s
 
-  pub below_holds : (h : ℕ) (es : List (Entry h)) → Below d h es → All (Vector d) (rows_below h es) → Holds h es
+  pub below_holds : (h : ℕ) (es : List (Entry h)) → Below d h es → AllByRecursion (Vector d) (rows_below h es) → Holds h es
   below_holds zero es b s = tt
   below_holds (suc h) [] b s = tt
   below_holds (suc h) (c ∷ cs) b s =
       let here = rows_below h c.entries in
       let others = rows_below (suc h) cs in
       let front = all_front (Vector d) here others s in (
-        subst (λ x. All (Lies x) here) (sym b.2) (rows_around h c.entries b.3 front),
+        subst (λ x. AllByRecursion (Lies x) here) (sym b.2) (rows_around h c.entries b.3 front),
         below_holds h c.entries b.3 front,
         below_holds (suc h) cs b.4 (all_back (Vector d) here others s),
       )
 
 pub rows_held : RowsHeld
 rows_held d t b s = (
-  subst (λ x. All (Lies x) (rows_in t)) (sym b.root) (rows_around d t.0 t.1.entries b.below s),
+  subst (λ x. AllByRecursion (Lies x) (rows_in t)) (sym b.root) (rows_around d t.0 t.1.entries b.below s),
   below_holds d t.0 t.1.entries b.below s,
 )
 
 -- ---- each box is one of sets of 64 bits
-pub sets_words : (d h : ℕ) (es : List (Entry h)) → Below d h es → All (λ b. words b ≡ true) (map (sets_of h) es)
+pub sets_words : (d h : ℕ) (es : List (Entry h)) → Below d h es → AllByRecursion (λ b. words b ≡ true) (map (sets_of h) es)
 sets_words d zero [] b = tt
 sets_words d zero (r ∷ rs) b = (words_point r.letters, sets_words d zero rs tt)
 sets_words d (suc h) [] b = tt
@@ -79,7 +79,7 @@ row_vector d r h v = and_from (dimensions (length r.letters)) (small r.letters) 
 
 -- ---- the rule of a measure, at one query
 module _ (distances floors : List ℕ → List ℕ → Option ℕ) (rule : FloorRule distances floors) (q : List ℕ) (d : ℕ) (size : dimensions d ≡ true) where
-  holds_ruled : (h : ℕ) (es : List (Entry h)) → Below d h es → All (Vector d) (rows_below h es) → Holds h es
+  holds_ruled : (h : ℕ) (es : List (Entry h)) → Below d h es → AllByRecursion (Vector d) (rows_below h es) → Holds h es
       → Ruled (λ r. distances q r.letters) (floors q) h es
   holds_ruled zero es b s u = tt
   holds_ruled (suc h) [] b s u = tt

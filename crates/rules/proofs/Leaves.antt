@@ -1,6 +1,6 @@
 -- What withdrawing a clip does to the build and to the rows.
 use Rattle.std.proofs.Common.{◌≡◌, ℕ, zero, suc, ◌<◌, ◌≤◌, Bool, true, false, cond, ltb, List, [], ◌∷◌, ◌++◌, length, take, drop, set, sym, refl, ap, ◌∙◌, subst, subst₂, arith, length-set}
-use Rattle.std.specs.List.{AllByRecursion as All}
+use Rattle.std.specs.List.{AllByRecursion}
 use Rattle.std.proofs.lemmas.List.{append-nil, append_assoc}
 use Rattle.std.proofs.ByRecursion.{All-append, All-set, All-get_or, All-take, All-drop}
 use Rattle.std.proofs.lemmas.Bool.{ltb-false, cond_both}
@@ -32,12 +32,12 @@ holder_holds h n (b ∷ bs) l = go (lists n (rows_below h b.entries)) refl (hold
 -- ---- what a withdrawal leaves
 -- of the entries es, without the number n: o.0 stay, and the rows o .1 are set aside
 pub record Left (d h : ℕ) (es : List (Entry h)) (n : ℕ) (o : List (Entry h) × List Row) : Type 0 where
-  pub good : All (Good d h) o.0
+  pub good : AllByRecursion (Good d h) o.0
   pub most : length o.0 ≤ length es
   pub least : length es ≤ suc (length o.0)
   pub rows : Same (rows_below h o.0 ++ o.1) (without n (rows_below h es))
 
-all_rows : (d : ℕ) (es : List Row) → All (Good d zero) es
+all_rows : (d : ℕ) (es : List Row) → AllByRecursion (Good d zero) es
 all_rows d es = good_all d zero es tt
 
 -- the rest of a list, when one of its places is taken out
@@ -63,7 +63,7 @@ without_at h n es p l one once =
 
 module _ (d h : ℕ) (es : List (Entry (suc h))) (n p : ℕ) (left : List (Entry h)) (aside : List Row) where
   module _ (in-es : p < length es) (one : 1 ≤ times n (rows_below h (entries_at h es p))) (once : times n (rows_below (suc h) es) ≤ 1)
-      (all : All (Good d (suc h)) es) (k : Left d h (entries_at h es p) n (left, aside)) where
+      (all : AllByRecursion (Good d (suc h)) es) (k : Left d h (entries_at h es p) n (left, aside)) where
     -- the box is dissolved
     rest_out : Left d (suc h) es n (take p es ++ drop (suc p) es, aside ++ rows_below h left)
     rest_out =
@@ -105,7 +105,7 @@ module _ (d h : ℕ) (es : List (Entry (suc h))) (n p : ℕ) (left : List (Entry
         cond_both (ltb (length left) 3) (take p es ++ drop (suc p) es, aside ++ rows_below h left) (set es p (boxed d h left), aside) (Left d (suc h) es n)
         (λ _. rest_out) (λ e. rest_in (ltb-false (length left) 3 e))
 
-pub withdraw_left : (d h : ℕ) (es : List (Entry h)) (n : ℕ) → All (Good d h) es → 1 ≤ times n (rows_below h es) → times n (rows_below h es) ≤ 1 → Left d h es n (withdraw_below d h es n)
+pub withdraw_left : (d h : ℕ) (es : List (Entry h)) (n : ℕ) → AllByRecursion (Good d h) es → 1 ≤ times n (rows_below h es) → times n (rows_below h es) ≤ 1 → Left d h es n (withdraw_below d h es n)
 withdraw_left d zero es n g one once =
     record {
       good = all_rows d (without n es);

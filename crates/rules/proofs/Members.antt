@@ -1,6 +1,6 @@
 -- Which elements a list has, and when their keys are apart.
 use Rattle.std.proofs.Common.{◌≡◌, ℕ, zero, suc, ◌<◌, ◌≤◌, ◌⊎◌, List, [], ◌∷◌, length, get_or, sym, refl, inl, inr, arith}
-use Rattle.std.specs.List.{ContainsAt as Has, AllByRecursion as All}
+use Rattle.std.specs.List.{ContainsAt as Has, AllByRecursion}
 use Rattle.std.proofs.ByRecursion.{All-get_or, All-from_get_or}
 use Rattle.ranked.specs.Same.{Same, none, keep, turn, then}
 use Rattle.ranked.proofs.Sames.{all_same}
@@ -25,7 +25,7 @@ module _ {X : Type 0} where
 -- no two elements have one key
 abbrev pub Apart : {X : Type 0} → (X → ℕ) → List X → Type 0
 Apart key [] = Unit {0}
-Apart key (x ∷ xs) = All (λ y. key x ≡ key y → ⊥) xs × Apart key xs
+Apart key (x ∷ xs) = AllByRecursion (λ y. key x ≡ key y → ⊥) xs × Apart key xs
 
 module _ {X : Type 0} (key : X → ℕ) where
   pub apart_same : {xs ys : List X} → Same xs ys → Apart key xs → Apart key ys

@@ -1,6 +1,6 @@
 -- What a box gives when it is opened: its rows, its boxes that wait, and how much is left below.
 use Rattle.std.proofs.Common.{◌≡◌, ℕ, zero, suc, ◌+◌, ◌≤◌, cond, List, [], ◌∷◌, ◌++◌, length, Some, None, Option, sym, refl, ap, ◌∙◌, ap₂, arith}
-use Rattle.std.specs.List.{flat_map, AllByRecursion as All}
+use Rattle.std.specs.List.{flat_map, AllByRecursion}
 use Rattle.std.proofs.lemmas.List.{append-nil}
 use Rattle.space.specs.Row.{Row}
 use Rattle.measures.specs.Floor.{Under, Bounded}
@@ -23,7 +23,7 @@ RuledIn dist floor t = Ruled dist floor t.0 t.1.entries
 
 module _ (dist : Row → Option ℕ) where
   -- rows under no floor have no find; rows under a floor have finds not below it
-  pub none_found : (rows : List Row) → All (λ r. Under None (dist r)) rows → finds_of dist rows ≡ []
+  pub none_found : (rows : List Row) → AllByRecursion (λ r. Under None (dist r)) rows → finds_of dist rows ≡ []
   none_found [] a = refl
   none_found (r ∷ rs) a = go (dist r) a.0 (none_found rs a.1)
     where
@@ -31,12 +31,12 @@ module _ (dist : Row → Option ℕ) where
       go None u more = more
       go (Some x) u more = absurd u
 
-  found_above : (f : ℕ) (rows : List Row) → All (λ r. Under (Some f) (dist r)) rows → All (λ y. f ≤ y.distance) (finds_of dist rows)
+  found_above : (f : ℕ) (rows : List Row) → AllByRecursion (λ r. Under (Some f) (dist r)) rows → AllByRecursion (λ y. f ≤ y.distance) (finds_of dist rows)
   found_above f [] a = tt
   found_above f (r ∷ rs) a = go (dist r) a.0 (found_above f rs a.1)
     where
-      go : (o : Option ℕ) → Under (Some f) o → All (λ y. f ≤ y.distance) (finds_of dist rs)
-          → All (λ y. f ≤ y.distance) (hit o r.number ++ finds_of dist rs)
+      go : (o : Option ℕ) → Under (Some f) o → AllByRecursion (λ y. f ≤ y.distance) (finds_of dist rs)
+          → AllByRecursion (λ y. f ≤ y.distance) (hit o r.number ++ finds_of dist rs)
       go None u more = more
       go (Some x) u more = (u, more)
 
@@ -49,7 +49,7 @@ module _ (dist : Row → Option ℕ) where
     finds_open (suc h) (b ∷ bs) u =
         finds_append dist (rows_below h b.entries) (rows_below (suc h) bs) ∙ go (floor b.sets) u.1 (finds_open (suc h) bs u.3)
       where
-        go : (o : Option ℕ) → All (λ r. Under o (dist r)) (rows_below h b.entries)
+        go : (o : Option ℕ) → AllByRecursion (λ r. Under o (dist r)) (rows_below h b.entries)
             → finds_of dist (rows_below (suc h) bs) ≡ flat_map (finds_in dist) (waits_of floor (suc h) bs)
             → finds_of dist (rows_below h b.entries) ++ finds_of dist (rows_below (suc h) bs) ≡ flat_map (finds_in dist) (wait_at o (h, b) ++ waits_of floor (suc h) bs)
         go None a more = ap₂ (λ x y. x ++ y) (none_found (rows_below h b.entries) a) more
@@ -57,15 +57,15 @@ module _ (dist : Row → Option ℕ) where
 
     -- of a box that waits: its floor has 32 bits, its boxes are ruled, and no find below it lies below its floor
     abbrev pub Sound : Wait → Type 0
-    Sound w = (w.0 ≤ 4294967295) × RuledIn dist floor w.1 × All (λ y. w.0 ≤ y.distance) (finds_in dist w)
+    Sound w = (w.0 ≤ 4294967295) × RuledIn dist floor w.1 × AllByRecursion (λ y. w.0 ≤ y.distance) (finds_in dist w)
 
-    pub sound_open : (h : ℕ) (es : List (Entry h)) → Ruled dist floor h es → All Sound (waits_of floor h es)
+    pub sound_open : (h : ℕ) (es : List (Entry h)) → Ruled dist floor h es → AllByRecursion Sound (waits_of floor h es)
     sound_open zero es u = tt
     sound_open (suc h) [] u = tt
     sound_open (suc h) (b ∷ bs) u = go (floor b.sets) u.0 u.1 (sound_open (suc h) bs u.3)
       where
-        go : (o : Option ℕ) → Bounded o → All (λ r. Under o (dist r)) (rows_below h b.entries) → All Sound (waits_of floor (suc h) bs)
-            → All Sound (wait_at o (h, b) ++ waits_of floor (suc h) bs)
+        go : (o : Option ℕ) → Bounded o → AllByRecursion (λ r. Under o (dist r)) (rows_below h b.entries) → AllByRecursion Sound (waits_of floor (suc h) bs)
+            → AllByRecursion Sound (wait_at o (h, b) ++ waits_of floor (suc h) bs)
         go None l a more = more
         go (Some f) l a more = ((l, u.2, found_above f (rows_below h b.entries) a), more)
 

@@ -1,6 +1,6 @@
 -- The ranking of rows: its front is the first k, and the only such list.
 use Rattle.std.proofs.Common.{◌≡◌, ℕ, zero, suc, ◌<◌, ◌≤◌, true, List, [], ◌∷◌, ◌++◌, length, get_or, take, Some, None, Option, sym, refl, ap, ◌∙◌, subst, inl, inr, arith}
-use Rattle.std.specs.List.{ContainsAt as Has, AllByRecursion as All}
+use Rattle.std.specs.List.{ContainsAt as Has, AllByRecursion}
 use Rattle.std.proofs.lemmas.List.{length-take, get_or_default}
 use Rattle.std.proofs.ByRecursion.{All-weaker, All-take, All-get_or, All-from_get_or, all-has, has_append_right}
 use Rattle.ranked.specs.declared.find.Find.{Find}
@@ -47,11 +47,11 @@ find_is : (f : Find) (n : ℕ) → n ≡ f.clip → ◌≡◌ {A = Find} (record
 find_is f n e = ap (λ m. let g : Find = record { distance = f.distance; clip = m } in g) e
 
 module _ (dist : Row → Option ℕ) where
-  apart_from : (n : ℕ) (rows : List Row) → All (λ r. n ≡ r.number → ⊥) rows → All (λ f. n ≡ f.clip → ⊥) (finds_of dist rows)
+  apart_from : (n : ℕ) (rows : List Row) → AllByRecursion (λ r. n ≡ r.number → ⊥) rows → AllByRecursion (λ f. n ≡ f.clip → ⊥) (finds_of dist rows)
   apart_from n [] a = tt
   apart_from n (r ∷ rs) a = go (apart_from n rs a.1) (dist r)
     where
-      go : All (λ f. n ≡ f.clip → ⊥) (finds_of dist rs) → (o : Option ℕ) → All (λ f. n ≡ f.clip → ⊥) (hit o r.number ++ finds_of dist rs)
+      go : AllByRecursion (λ f. n ≡ f.clip → ⊥) (finds_of dist rs) → (o : Option ℕ) → AllByRecursion (λ f. n ≡ f.clip → ⊥) (hit o r.number ++ finds_of dist rs)
       go more None = more
       go more (Some x) = (a.0, more)
 
@@ -69,16 +69,16 @@ module _ (dist : Row → Option ℕ) where
       (apart_same clip (ranked_holds ahead (finds_of dist rows)) (finds_apart rows (apart_from_at number rows once)))
 
   -- ---- each find comes from a row
-  finds_come : (rows : List Row) → All (Comes dist rows) (finds_of dist rows)
+  finds_come : (rows : List Row) → AllByRecursion (Comes dist rows) (finds_of dist rows)
   finds_come [] = tt
   finds_come (r ∷ rs) =
       go (All-weaker (Comes dist rs) (Comes dist (r ∷ rs)) (λ f c. (suc c.0, omega (arith, c.1), c.2)) (finds_of dist rs) (finds_come rs)) (dist r) refl
     where
-      go : All (Comes dist (r ∷ rs)) (finds_of dist rs) → (o : Option ℕ) → dist r ≡ o → All (Comes dist (r ∷ rs)) (hit o r.number ++ finds_of dist rs)
+      go : AllByRecursion (Comes dist (r ∷ rs)) (finds_of dist rs) → (o : Option ℕ) → dist r ≡ o → AllByRecursion (Comes dist (r ∷ rs)) (hit o r.number ++ finds_of dist rs)
       go more None e = more
       go more (Some x) e = ((0, omega arith, (λ d. (refl, e))), more)
 
-  pub ranking_comes : (rows : List Row) → All (Comes dist rows) (ranking dist rows)
+  pub ranking_comes : (rows : List Row) → AllByRecursion (Comes dist rows) (ranking dist rows)
   ranking_comes rows = all_same (Comes dist rows) (ranked_holds ahead (finds_of dist rows)) (finds_come rows)
 
   -- ---- each row with a distance is a find

@@ -1,6 +1,6 @@
 -- The reach of a search: the distance of the kth find, and what is known of it while finds are still to come.
 use Rattle.std.proofs.Common.{◌≡◌, ℕ, zero, suc, ◌-◌, ◌<◌, ◌≤◌, Bool, true, false, cond, ◌||◌, ltb, leb, List, [], ◌∷◌, ◌++◌, length, get_or, take, count_by, sym, refl, subst, arith}
-use Rattle.std.specs.List.{AllByRecursion as All}
+use Rattle.std.specs.List.{AllByRecursion}
 use Rattle.std.proofs.lemmas.List.{length-take, get_or-take}
 use Rattle.std.proofs.ByRecursion.{All-weaker, All-get_or}
 use Rattle.std.proofs.lemmas.List.Sums.{sum_by-cons, sum_by-append, count_by-le-length}
@@ -20,7 +20,7 @@ module _ {X : Type 0} (p : X → Bool) where
   abbrev one : X → ℕ
   one x = cond (p x) 1 0
 
-  count_none : (xs : List X) → All (λ x. p x ≡ false) xs → count_by p xs ≡ 0
+  count_none : (xs : List X) → AllByRecursion (λ x. p x ≡ false) xs → count_by p xs ≡ 0
   count_none [] a = refl
   count_none (x ∷ xs) a = let more = count_none xs a.1 in let no = a.0 in let sum = sum_by-cons one x xs in grind arith
 
@@ -49,7 +49,7 @@ few_then f (x ∷ R) (suc i) d r h c =
         omega arith
 
 -- all of a list in rank are as near as its last
-all_nearer : (f : ℕ) (F : List Find) (i : ℕ) (d : Find) → InRank ahead F → length F ≡ suc i → (get_or F i d).distance < f → All (λ y. y.distance < f) F
+all_nearer : (f : ℕ) (F : List Find) (i : ℕ) (d : Find) → InRank ahead F → length F ≡ suc i → (get_or F i d).distance < f → AllByRecursion (λ y. y.distance < f) F
 all_nearer f [] i d r e h = tt
 all_nearer f (x ∷ []) zero d r e h = (h, tt)
 all_nearer f (x ∷ y ∷ ys) zero d r e h = absurd (omega arith)
@@ -78,7 +78,7 @@ few_within k F f one short h = go (ltb (length F) k) refl h
         omega arith
 
 -- a floor within the reach of the finds so far is within that of all finds, where none to come lies below it
-pub reach_within : (k : ℕ) (F U : List Find) (f : ℕ) → 1 ≤ k → length F ≤ k → f ≤ 4294967295 → All (λ y. f ≤ y.distance) U → f ≤ reach k F
+pub reach_within : (k : ℕ) (F U : List Find) (f : ℕ) → 1 ≤ k → length F ≤ k → f ≤ 4294967295 → AllByRecursion (λ y. f ≤ y.distance) U → f ≤ reach k F
     → f ≤ reach k (take k (ranked ahead (F ++ U)))
 reach_within k F U f one short small above h =
     let p : Find → Bool = λ x. ltb x.distance f in
@@ -98,10 +98,10 @@ reach_within k F U f one short small above h =
 
 -- a floor above it: k are found, and all lie below the floor
 pub reach_above : (k : ℕ) (F : List Find) (f : ℕ) → 1 ≤ k → length F ≤ k → InRank ahead F → f ≤ 4294967295 → reach k F < f
-    → (length F ≡ k) × All (λ y. y.distance < f) F
+    → (length F ≡ k) × AllByRecursion (λ y. y.distance < f) F
 reach_above k F f one short r small h = go (ltb (length F) k) refl h
   where
-    go : (b : Bool) → ltb (length F) k ≡ b → cond b 4294967295 (get_or F (k - 1) no_find).distance < f → (length F ≡ k) × All (λ y. y.distance < f) F
+    go : (b : Bool) → ltb (length F) k ≡ b → cond b 4294967295 (get_or F (k - 1) no_find).distance < f → (length F ≡ k) × AllByRecursion (λ y. y.distance < f) F
     go true e h = absurd (let z : 4294967295 < f = h in omega arith)
     go false e h =
         let l = ltb-false (length F) k e in

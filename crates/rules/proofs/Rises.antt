@@ -1,6 +1,6 @@
 -- Lists that rise: each element stands before every one to its right.
 use Rattle.std.proofs.Common.{◌≡◌, ℕ, zero, suc, ◌<◌, ◌≤◌, Bool, true, false, cond, ◌⊎◌, List, [], ◌∷◌, length, get_or, take, sym, refl, ap, ◌∙◌, subst, ap₂, inl, inr, arith}
-use Rattle.std.specs.List.{ContainsAt as Has, AllByRecursion as All}
+use Rattle.std.specs.List.{ContainsAt as Has, AllByRecursion}
 use Rattle.std.proofs.ByRecursion.{All-get_or, All-from_get_or, All-take, all-has}
 use Rattle.std.proofs.lemmas.Bool.{both_ways}
 use Rattle.ranked.specs.Rank.{Order, InRank, place, ranked}
@@ -9,7 +9,7 @@ use Rattle.rules.proofs.Members.{has_first, has_later, has_cases, has_none, Apar
 
 abbrev pub Rises : {X : Type 0} → (X → X → Bool) → List X → Type 0
 Rises before [] = Unit {0}
-Rises before (x ∷ xs) = All (λ y. before x y ≡ true) xs × Rises before xs
+Rises before (x ∷ xs) = AllByRecursion (λ y. before x y ≡ true) xs × Rises before xs
 
 module _ {X : Type 0} (before : X → X → Bool) where
   pub rises_at : (xs : List X) (i j : ℕ) (d : X) → Rises before xs → i < j → j < length xs → before (get_or xs i d) (get_or xs j d) ≡ true
@@ -40,7 +40,7 @@ module _ {X : Type 0} (before : X → X → Bool) where
       one y p q true e = e
       one y p q false e = absurd (q (tie x y e p))
 
-      go : (ys : List X) → All (λ y. before y x ≡ false) ys → All (λ y. key x ≡ key y → ⊥) ys → All (λ y. before x y ≡ true) ys
+      go : (ys : List X) → AllByRecursion (λ y. before y x ≡ false) ys → AllByRecursion (λ y. key x ≡ key y → ⊥) ys → AllByRecursion (λ y. before x y ≡ true) ys
       go [] p q = tt
       go (y ∷ ys) p q = (one y p.0 q.0 (before x y) refl, go ys p.1 q.1)
 
@@ -49,13 +49,13 @@ module _ {X : Type 0} (before : X → X → Bool) where
   rises_is [] r = refl
   rises_is (x ∷ xs) r = ap (place before x) (rises_is xs r.1) ∙ front xs r.0
     where
-      front : (ys : List X) → All (λ y. before x y ≡ true) ys → place before x ys ≡ x ∷ ys
+      front : (ys : List X) → AllByRecursion (λ y. before x y ≡ true) ys → place before x ys ≡ x ∷ ys
       front [] a = refl
       front (y ∷ ys) a = ap (λ t. cond t (x ∷ y ∷ ys) (y ∷ place before x ys)) a.0
 
   -- y stands in the list, or behind a list of k elements
   abbrev pub OrBehind : ℕ → List X → X → Type 0
-  OrBehind k xs y = Has xs y ⊎ ((length xs ≡ k) × All (λ x. before x y ≡ true) xs)
+  OrBehind k xs y = Has xs y ⊎ ((length xs ≡ k) × AllByRecursion (λ x. before x y ≡ true) xs)
 
   -- each element of a list that rises stands in its front, or behind it
   pub front_or_behind : (k : ℕ) (xs : List X) (y : X) → Rises before xs → Has xs y → OrBehind k (take k xs) y
@@ -100,11 +100,11 @@ module _ {X : Type 0} (before : X → X → Bool) (order : Order before) where
   others_or : (k : ℕ) (x y : X) (xs : List X) → before x y ≡ true → OrBehind before (suc k) (x ∷ xs) y → OrBehind before k xs y
   others_or k x y xs p b = elim b [ inl h ↦ inl (others x y xs p h) | inr c ↦ let n = c.0 in inr (omega arith, c.1.1) ]
 
-  all_others : (x : X) (ys zs : List X) → All (λ z. before x z ≡ true) zs → All (Has (x ∷ ys)) zs → All (Has ys) zs
+  all_others : (x : X) (ys zs : List X) → AllByRecursion (λ z. before x z ≡ true) zs → AllByRecursion (Has (x ∷ ys)) zs → AllByRecursion (Has ys) zs
   all_others x ys [] p h = tt
   all_others x ys (z ∷ zs) p h = (others x z ys p.0 h.0, all_others x ys zs p.1 h.1)
 
-  pub front_only : (k : ℕ) (xs ys : List X) → Rises before xs → Rises before ys → All (Has ys) xs → ((y : X) → Has ys y → OrBehind before k xs y) → length xs ≤ k → xs ≡ take k ys
+  pub front_only : (k : ℕ) (xs ys : List X) → Rises before xs → Rises before ys → AllByRecursion (Has ys) xs → ((y : X) → Has ys y → OrBehind before k xs y) → length xs ≤ k → xs ≡ take k ys
   front_only zero [] ys p q h o l = refl
   front_only zero (x ∷ xs) ys p q h o l = absurd (omega arith)
   front_only (suc k) [] [] p q h o l = refl
@@ -113,7 +113,7 @@ module _ {X : Type 0} (before : X → X → Bool) (order : Order before) where
       absurd (elim (o y (has_first y ys)) [ inl m ↦ has_none y m | inr c ↦ let n = c.0 in omega arith ])
   front_only (suc k) (x ∷ xs) (y ∷ ys) p q h o l =
       let e = heads (suc k) x xs y ys p q h.0 (o y (has_first y ys)) in
-      let h' : All (Has (x ∷ ys)) xs = subst (λ z. All (Has (z ∷ ys)) xs) (sym e) h.1 in
+      let h' : AllByRecursion (Has (x ∷ ys)) xs = subst (λ z. AllByRecursion (Has (z ∷ ys)) xs) (sym e) h.1 in
       ap₂ (λ z zs. z ∷ zs) e
       (front_only k xs ys p.1 q.1 (all_others x ys xs p.0 h')
       (λ z m. others_or k x z xs (subst (λ w. before w z ≡ true) (sym e) (all-has (λ w. before y w ≡ true) ys z q.0 m)) (o z (has_later y z ys m)))

@@ -1,6 +1,6 @@
 -- What a run of calls leaves is saved and loaded again.
 use Rattle.std.proofs.Common.{◌≡◌, ℕ, ◌^◌, ◌<◌, ◌≤◌, List, [], ◌∷◌, length, Some, None, Option, sym, refl, subst, arith}
-use Rattle.std.specs.List.{AllByRecursion as All}
+use Rattle.std.specs.List.{AllByRecursion}
 use Rattle.std.proofs.ByRecursion.{All-push, All-append, All-weaker}
 use Rattle.ranked.specs.Same.{Same, then}
 use Rattle.ranked.proofs.Sames.{all_same, length_same}
@@ -21,27 +21,27 @@ use Rattle.rules.proofs.Times.{all_without}
 abbrev Small : Row → Type 0
 Small r = r.number < 2 ^ 32
 
-step_small : (plan : List ℕ) (capacity : ℕ) (rows : List Row) (c : Call) → Possible c → answer plan capacity rows c ≡ None → All Small rows → All Small (recorded plan rows c)
+step_small : (plan : List ℕ) (capacity : ℕ) (rows : List Row) (c : Call) → Possible c → answer plan capacity rows c ≡ None → AllByRecursion Small rows → AllByRecursion Small (recorded plan rows c)
 step_small plan capacity rows (enters n v) p e a = All-push Small rows (record { number = n; letters = v }) a p
 step_small plan capacity rows (withdraws n words) p e a = all_without Small n rows a
 step_small plan capacity rows (loads file) p e a =
     All-append Small rows (file_rows plan file) a
     (All-weaker (PossibleRow plan) Small (λ r q. q.0) (file_rows plan file) (loaded_proper plan capacity rows file p e).0)
 
-run_small : (plan : List ℕ) (capacity : ℕ) (rows : List Row) (cs : List Call) → All Possible cs → All Small rows → All Small (registered plan capacity rows cs)
+run_small : (plan : List ℕ) (capacity : ℕ) (rows : List Row) (cs : List Call) → AllByRecursion Possible cs → AllByRecursion Small rows → AllByRecursion Small (registered plan capacity rows cs)
 run_small plan capacity rows [] p a = a
 run_small plan capacity rows (c ∷ cs) p a = run_small plan capacity (next plan capacity rows c) cs p.1 (go (answer plan capacity rows c) refl)
   where
-    go : (o : Option Refusal) → answer plan capacity rows c ≡ o → All Small (unless o (recorded plan rows c) rows)
+    go : (o : Option Refusal) → answer plan capacity rows c ≡ o → AllByRecursion Small (unless o (recorded plan rows c) rows)
     go None e = step_small plan capacity rows c p.0 e a
     go (Some r) e = a
 
 pub runs_save : RunsSave
 runs_save plan capacity calls t k possible few =
     let rows = registered plan capacity [] calls in
-    let can : All (PossibleRow plan) rows =
+    let can : AllByRecursion (PossibleRow plan) rows =
     all_both Small (Proper plan) (PossibleRow plan) (λ r x y. (x, y)) rows (run_small plan capacity [] calls possible tt) k.proper in
-    let here : All (PossibleRow plan) (rows_in t) = all_same (PossibleRow plan) k.entries can in
+    let here : AllByRecursion (PossibleRow plan) (rows_in t) = all_same (PossibleRow plan) k.entries can in
     let once = once_same rows (rows_in t) k.entries k.once in
     let long = length_same k.entries in
     let room : length (rows_in t) ≤ capacity = let r = k.room in omega arith in

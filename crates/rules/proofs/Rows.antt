@@ -1,6 +1,6 @@
 -- Entering a clip adds its row, and loses none.
 use Rattle.std.proofs.Common.{◌≡◌, ℕ, zero, suc, ◌+◌, ◌/◌, ◌<◌, ◌≤◌, Bool, true, false, cond, List, [], ◌∷◌, ◌++◌, map, length, get_or, take, drop, set, Some, None, Option, sym, refl, ap, ◌∙◌, subst, subst₂, add-one, arith}
-use Rattle.std.specs.List.{AllByRecursion as All}
+use Rattle.std.specs.List.{AllByRecursion}
 use Rattle.std.proofs.lemmas.List.{append-nil, append_assoc, length_push, drop_more, take-append-drop, set_split}
 use Rattle.std.proofs.ByRecursion.{All-get_or}
 use Rattle.space.specs.Boxes.{has}
@@ -81,7 +81,7 @@ up_rows h es r p g l s =
     subst₂ (λ x y. Same (x ++ r ∷ []) y) (sym (rows_at h es p l)) (sym after)
     (same_exchange A B (rows_below h (entries_at h es p)) (r ∷ []) (rows_below h g.0.entries) (rows_below (suc h) (extra g.1)) s)
 
-pub enter_rows : (d h : ℕ) (es : List (Entry h)) (r : Row) → length es ≤ 8 → SomeOf h es → All (Good d h) es → Same (rows_below h es ++ r ∷ []) (rows_of h (enter_below d h es r))
+pub enter_rows : (d h : ℕ) (es : List (Entry h)) (r : Row) → length es ≤ 8 → SomeOf h es → AllByRecursion (Good d h) es → Same (rows_below h es ++ r ∷ []) (rows_of h (enter_below d h es r))
 enter_rows d zero es r l some g =
     let long : length (es ++ r ∷ []) ≡ length es + 1 = length_push es r in
     fitted_rows d zero (es ++ r ∷ []) (omega arith)
@@ -139,7 +139,7 @@ fitted_boxes : (d h : ℕ) (es : List (Entry h)) → length es ≤ 9 → suc (bo
 fitted_boxes d h es l =
     fitted_by d h es (λ g. suc (boxes_from h es) ≤ boxes_of h g) l (λ _. omega arith) (λ code _ _. omega (arith, group_boxes h code es))
 
-pub enter_boxes : (d h : ℕ) (es : List (Entry h)) (r : Row) → length es ≤ 8 → SomeOf h es → All (Good d h) es → suc (boxes_from h es) ≤ boxes_of h (enter_below d h es r)
+pub enter_boxes : (d h : ℕ) (es : List (Entry h)) (r : Row) → length es ≤ 8 → SomeOf h es → AllByRecursion (Good d h) es → suc (boxes_from h es) ≤ boxes_of h (enter_below d h es r)
 enter_boxes d zero es r l some g =
     let long : length (es ++ r ∷ []) ≡ length es + 1 = length_push es r in
     fitted_boxes d zero (es ++ r ∷ []) (omega arith)

@@ -1,6 +1,6 @@
 -- The laws of runs.
 use Rattle.std.proofs.Common.{◌≡◌, ℕ, ◌+◌, ◌≤◌, Bool, true, false, cond, eqb, leb, ◌⊎◌, List, [], ◌∷◌, ◌++◌, length, Some, None, Option, sym, refl, ap, ◌∙◌, subst, ap₂, inl, inr, arith}
-use Rattle.std.specs.List.{AllByRecursion as All}
+use Rattle.std.specs.List.{AllByRecursion}
 use Rattle.std.proofs.lemmas.List.{length_push, nil_from_length}
 use Rattle.std.proofs.ByRecursion.{All-push}
 use Rattle.std.proofs.lemmas.Bool.{eqb-true, eq-eqb, ne_eqb, le-leb, lt-leb, cases_eq}
@@ -27,7 +27,7 @@ use Rattle.rules.proofs.Answered.{enter_open, withdraw_open, load_open, answer_s
 pub record Holds (plan : List ℕ) (capacity : ℕ) (rows : List Row) (t : Tree) : Type 0 where
   pub build : Build (length plan) t
   pub entries : Same rows (rows_in t)
-  pub proper : All (Proper plan) rows
+  pub proper : AllByRecursion (Proper plan) rows
   pub once : Single rows
   pub room : length rows ≤ capacity
 
@@ -77,7 +77,7 @@ step plan capacity rows t k (loads file) e =
     record {
       build = entered_all_build (length plan) t rs k.build;
       entries = then (same_swap rows rs) (then (same_after rs k.entries) (entered_all_rows (length plan) t rs k.build));
-      proper = subst (λ x. All (Proper plan) (x ++ rs)) (sym nil) o.0;
+      proper = subst (λ x. AllByRecursion (Proper plan) (x ++ rs)) (sym nil) o.0;
       once = subst (λ x. Single (x ++ rs)) (sym nil) o.1;
       room = subst (λ x. length (x ++ rs) ≤ capacity) (sym nil) o.2;
     }

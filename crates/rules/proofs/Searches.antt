@@ -1,6 +1,6 @@
 -- The search for the k nearest begins, goes on and ends.
 use Rattle.std.proofs.Common.{◌≡◌, ℕ, zero, suc, ◌+◌, ◌<◌, ◌≤◌, false, leb, List, [], ◌∷◌, ◌++◌, length, get_or, take, Option, sym, ap, ◌∙◌, subst, ap₂, arith}
-use Rattle.std.specs.List.{flat_map, AllByRecursion as All}
+use Rattle.std.specs.List.{flat_map, AllByRecursion}
 use Rattle.std.proofs.lemmas.List.{append-nil, append_assoc, take_all}
 use Rattle.std.proofs.ByRecursion.{All-weaker, All-from_get_or}
 use Rattle.std.proofs.lemmas.Bool.{leb-true, leb-false, lt-leb, le-leb, ltb-false, cond-true, cond-false, cond_both}
@@ -49,19 +49,19 @@ module _ (dist : Row → Option ℕ) (floor : List ℕ → Option ℕ) (k : ℕ)
         short = g.short;
         small = all_same (λ w. w.0 ≤ 4294967295) s g.small;
         ruled = all_same (λ w. RuledIn dist floor w.1) s g.ruled;
-        bounds = all_same (λ w. All (λ y. w.0 ≤ y.distance) (finds_in dist w)) s g.bounds;
+        bounds = all_same (λ w. AllByRecursion (λ y. w.0 ≤ y.distance) (finds_in dist w)) s g.bounds;
         finds = ap (take k) (ranked_same ahead ahead_order ahead_tie (same_after F (same_joined (finds_in dist) (same_sym s)))) ∙ g.finds;
         opens = ap (λ x. n + x) (total_same (opens_at floor (reach k (nearest_in dist k t))) (same_sym s)) ∙ g.opens;
         sizes = (let e = total_same (λ (w : Wait). boxes_in w.1) s in let z = g.sizes in omega arith);
       }
 
   -- ---- the box w, which has the least floor of those that wait, is opened; then those of W' wait
-  module _ (F : List Find) (n : ℕ) (w : Wait) (W : List Wait) (g : Going dist floor k t F n (w ∷ W)) (least : All (λ y. w.0 ≤ y.0) W) where
+  module _ (F : List Find) (n : ℕ) (w : Wait) (W : List Wait) (g : Going dist floor k t F n (w ∷ W)) (least : AllByRecursion (λ y. w.0 ≤ y.0) W) where
     -- no find to come lies below the least floor
-    all_above : All (λ y. w.0 ≤ y.distance) (flat_map (finds_in dist) (w ∷ W))
+    all_above : AllByRecursion (λ y. w.0 ≤ y.distance) (flat_map (finds_in dist) (w ∷ W))
     all_above =
         all_joined (λ y. w.0 ≤ y.distance) (finds_in dist) (w ∷ W)
-        (all_both (λ v. w.0 ≤ v.0) (λ v. All (λ y. v.0 ≤ y.distance) (finds_in dist v)) (λ v. All (λ y. w.0 ≤ y.distance) (finds_in dist v))
+        (all_both (λ v. w.0 ≤ v.0) (λ v. AllByRecursion (λ y. v.0 ≤ y.distance) (finds_in dist v)) (λ v. AllByRecursion (λ y. w.0 ≤ y.distance) (finds_in dist v))
         (λ v a b. All-weaker (λ y. v.0 ≤ y.distance) (λ y. w.0 ≤ y.distance) (λ y c. omega arith) (finds_in dist v) b)
         (w ∷ W) (omega arith, least) g.bounds)
 
@@ -103,10 +103,10 @@ module _ (dist : Row → Option ℕ) (floor : List ℕ → Option ℕ) (k : ℕ)
       going_more one h =
           let own = finds_of dist (own_in w.1) in
           let V = waits_in floor w.1 in
-          let sound : All (Sound dist floor) V = sound_open dist floor w.1.0 w.1.1.entries g.ruled.0 in
+          let sound : AllByRecursion (Sound dist floor) V = sound_open dist floor w.1.0 w.1.1.entries g.ruled.0 in
           let Small : Wait → Type 0 = λ v. v.0 ≤ 4294967295 in
           let Rules : Wait → Type 0 = λ v. RuledIn dist floor v.1 in
-          let Bound : Wait → Type 0 = λ v. All (λ y. v.0 ≤ y.distance) (finds_in dist v) in
+          let Bound : Wait → Type 0 = λ v. AllByRecursion (λ y. v.0 ≤ y.distance) (finds_in dist v) in
           record {
             nears = keep_first_in_rank ahead ahead_order k F own g.nears;
             short = keep_first_short ahead k F own g.short;
@@ -140,7 +140,7 @@ module _ (dist : Row → Option ℕ) (floor : List ℕ → Option ℕ) (k : ℕ)
   )
 
   -- the least floor is above the reach
-  pub done_above : (F : List Find) (n : ℕ) (w : Wait) (W : List Wait) → Going dist floor k t F n (w ∷ W) → All (λ y. w.0 ≤ y.0) W
+  pub done_above : (F : List Find) (n : ℕ) (w : Wait) (W : List Wait) → Going dist floor k t F n (w ∷ W) → AllByRecursion (λ y. w.0 ≤ y.0) W
       → 1 ≤ k → reach k F < w.0 → Done F n
   done_above F n w W g least one h =
       let U = flat_map (finds_in dist) (w ∷ W) in
@@ -149,8 +149,8 @@ module _ (dist : Row → Option ℕ) (floor : List ℕ → Option ℕ) (k : ℕ)
       let front : take k (ranked ahead F) ≡ F = ap (take k) same ∙ take_all k F g.short in
       let past : take k (ranked ahead (U ++ F)) ≡ take k (ranked ahead F) =
       ranked_past ahead k U F (let e = ap length same in let l = full.0 in omega arith)
-      (All-weaker (λ y. w.0 ≤ y.distance) (λ y. All (λ z. ahead y z ≡ false) (take k (ranked ahead F)))
-      (λ y a. subst (λ l. All (λ z. ahead y z ≡ false) l) (sym front)
+      (All-weaker (λ y. w.0 ≤ y.distance) (λ y. AllByRecursion (λ z. ahead y z ≡ false) (take k (ranked ahead F)))
+      (λ y a. subst (λ l. AllByRecursion (λ z. ahead y z ≡ false) l) (sym front)
       (All-weaker (λ z. z.distance < w.0) (λ z. ahead y z ≡ false) (λ z b. farther z y (omega arith)) F full.1))
       U (all_above F n w W g least)) in
       let found : F ≡ nearest_in dist k t = sym front ∙ sym past ∙ ap (take k) (ranked_same ahead ahead_order ahead_tie (same_swap U F)) ∙ g.finds in
@@ -169,7 +169,7 @@ module _ (dist : Row → Option ℕ) (floor : List ℕ → Option ℕ) (k : ℕ)
 sooner_order : Order sooner
 sooner_order = record { one_way = λ x y h. grind (arith, nat_tests); chain = λ x y z h k. grind (arith, nat_tests) }
 
-least_first : (w : Wait) (W : List Wait) → InRank sooner (w ∷ W) → All (λ y. w.0 ≤ y.0) W
+least_first : (w : Wait) (W : List Wait) → InRank sooner (w ∷ W) → AllByRecursion (λ y. w.0 ≤ y.0) W
 least_first w W r = All-weaker (λ y. sooner y w ≡ false) (λ y. w.0 ≤ y.0) (λ y e. ltb-false y.0 w.0 e) W r.0
 
 module _ (dist : Row → Option ℕ) (floor : List ℕ → Option ℕ) (k : ℕ) (t : Tree) (one : 1 ≤ k) where

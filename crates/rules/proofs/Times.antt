@@ -1,7 +1,7 @@
 -- How often a number stands in some rows.
 use Rattle.std.proofs.Common.{◌≡◌, ℕ, zero, suc, ◌+◌, ◌<◌, ◌≤◌, Bool, true, false, cond, ◌||◌, eqb, List, [], ◌∷◌, ◌++◌, length, get_or, sym, refl, ap, ◌∙◌, arith}
 use Rattle.std.proofs.lemmas.Bool.{false≢true, eq-eqb, eqb-true, both_ways, cond_both}
-use Rattle.std.specs.List.{AllByRecursion as All}
+use Rattle.std.specs.List.{AllByRecursion}
 use Rattle.space.specs.Row.{Row}
 use Rattle.rules.specs.Rows.{lists, without}
 use Rattle.rules.specs.Finds.{Once}
@@ -99,11 +99,11 @@ times_without m n (x ∷ xs) =
     elim (eqb x.number n) as (λ t. times m (cond t (without n xs) (x ∷ without n xs)) ≤ cond (eqb x.number m) 1 0 + times m xs)
     [ true ↦ omega arith | false ↦ omega arith ]
 
-pub all_without : (P : Row → Type 0) (n : ℕ) (xs : List Row) → All P xs → All P (without n xs)
+pub all_without : (P : Row → Type 0) (n : ℕ) (xs : List Row) → AllByRecursion P xs → AllByRecursion P (without n xs)
 all_without P n [] a = tt
 all_without P n (x ∷ xs) a =
     let more = all_without P n xs a.1 in
-    cond_both (eqb x.number n) (without n xs) (x ∷ without n xs) (All P) (λ _. more) (λ _. (a.0, more))
+    cond_both (eqb x.number n) (without n xs) (x ∷ without n xs) (AllByRecursion P) (λ _. more) (λ _. (a.0, more))
 
 -- each row more, or not, alike
 more_same : (t : Bool) (x : Row) {xs ys : List Row} → Same xs ys → Same (cond t xs (x ∷ xs)) (cond t ys (x ∷ ys))

@@ -1,6 +1,6 @@
 -- Sums over what waits.
 use Rattle.std.proofs.Common.{◌≡◌, ℕ, suc, ◌+◌, ◌≤◌, List, [], ◌∷◌, ◌++◌, length, refl, ap, ◌∙◌, arith}
-use Rattle.std.specs.List.{AllByRecursion as All}
+use Rattle.std.specs.List.{AllByRecursion}
 use Rattle.ranked.specs.Same.{Same, none, keep, turn, then}
 use Rattle.rules.specs.Going.{total}
 
@@ -15,11 +15,11 @@ module _ {X : Type 0} (f : X → ℕ) where
   total_append [] ys = omega arith
   total_append (x ∷ xs) ys = let more = total_append xs ys in omega arith
 
-  pub total_none : (xs : List X) → All (λ x. f x ≡ 0) xs → total f xs ≡ 0
+  pub total_none : (xs : List X) → AllByRecursion (λ x. f x ≡ 0) xs → total f xs ≡ 0
   total_none [] a = refl
   total_none (x ∷ xs) a = let more = total_none xs a.1 in omega (arith, a.0)
 
-  pub length_total : (xs : List X) → All (λ x. 1 ≤ f x) xs → length xs ≤ total f xs
+  pub length_total : (xs : List X) → AllByRecursion (λ x. 1 ≤ f x) xs → length xs ≤ total f xs
   length_total [] a = omega arith
   length_total (x ∷ xs) a = let more = length_total xs a.1 in omega (arith, a.0)
 

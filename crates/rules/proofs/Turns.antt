@@ -1,6 +1,6 @@
 -- The turns of a search whose boxes wait in a table: an entry of the table is read as a box of the tree by a function `read`.
 use Rattle.std.proofs.Common.{◌≡◌, ℕ, suc, ◌<◌, ◌≤◌, cond, List, [], ◌∷◌, ◌++◌, map, Option, refl, ap, ◌∙◌}
-use Rattle.std.specs.List.{flat_map, AllByRecursion as All}
+use Rattle.std.specs.List.{flat_map, AllByRecursion}
 use Rattle.std.proofs.lemmas.List.{map-append}
 use Rattle.std.proofs.ByRecursion.{All-map}
 use Rattle.ranked.specs.declared.find.Find.{Find}
@@ -44,8 +44,8 @@ read_same : {X Y : Type 0} (read : X → Y) (news V V' : List X) (came : List Y)
 read_same read news V V' came brings s = then (same_map read s) (same_from (map-append read news V ∙ ap (λ l. l ++ map read V) brings))
 
 -- ---- a search for the k nearest, at an entry x that has the least floor
-module _ {X : Type 0} (read : X → Wait) (dist : Row → Option ℕ) (floor : List ℕ → Option ℕ) (k : ℕ) (t : Tree) (F : List Find) (n : ℕ) (x : X) (V : List X) (g : Going dist floor k t F n (map read (x ∷ V))) (least : All (λ y. (read x).0 ≤ (read y).0) V) where
-  read_least : All (λ w. (read x).0 ≤ w.0) (map read V)
+module _ {X : Type 0} (read : X → Wait) (dist : Row → Option ℕ) (floor : List ℕ → Option ℕ) (k : ℕ) (t : Tree) (F : List Find) (n : ℕ) (x : X) (V : List X) (g : Going dist floor k t F n (map read (x ∷ V))) (least : AllByRecursion (λ y. (read x).0 ≤ (read y).0) V) where
+  read_least : AllByRecursion (λ w. (read x).0 ≤ w.0) (map read V)
   read_least = All-map (λ w. (read x).0 ≤ w.0) read V least
 
   -- its floor is above the reach

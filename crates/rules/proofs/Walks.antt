@@ -1,6 +1,6 @@
 -- The search within a radius: what it may leave out, and how it begins, goes on and ends.
 use Rattle.std.proofs.Common.{◌≡◌, ℕ, zero, suc, ◌+◌, ◌<◌, ◌≤◌, Bool, true, false, cond, List, [], ◌∷◌, ◌++◌, length, get_or, Some, None, Option, sym, refl, ap, ◌∙◌, subst, ap₂, arith}
-use Rattle.std.specs.List.{flat_map, AllByRecursion as All}
+use Rattle.std.specs.List.{flat_map, AllByRecursion}
 use Rattle.std.proofs.lemmas.List.{append-nil, append_assoc}
 use Rattle.std.proofs.ByRecursion.{All-weaker, All-from_get_or}
 use Rattle.std.proofs.lemmas.Bool.{leb-false, lt-leb}
@@ -41,7 +41,7 @@ module _ (dist : Row → Option ℕ) (floor : List ℕ → Option ℕ) (radius :
   far_none (Some f) (Some x) e u =
       let l = leb-false f radius e in subst (λ b. Under None (given b x)) (sym (lt-leb x radius (omega arith))) tt
 
-  far_found : (o : Option ℕ) → near radius o ≡ false → (rows : List Row) → All (λ r. Under o (dist r)) rows → finds_of (within dist radius) rows ≡ []
+  far_found : (o : Option ℕ) → near radius o ≡ false → (rows : List Row) → AllByRecursion (λ r. Under o (dist r)) rows → finds_of (within dist radius) rows ≡ []
   far_found o e rows a =
       none_found (within dist radius) rows
       (All-weaker (λ r. Under o (dist r)) (λ r. Under None (within dist radius r)) (λ r u. far_none o (dist r) e u) rows a)
@@ -79,13 +79,13 @@ module _ (dist : Row → Option ℕ) (floor : List ℕ → Option ℕ) (radius :
       go true e more = ap (λ x. hits_in (h, b) ++ x) more
       go false e more = ap₂ (λ x y. x ++ y) (far_found (floor b.sets) e (rows_below h b.entries) u.1) more
 
-  near_ruled : (h : ℕ) (es : List (Entry h)) → Ruled dist floor h es → All (RuledIn dist floor) (near_of floor radius h es)
+  near_ruled : (h : ℕ) (es : List (Entry h)) → Ruled dist floor h es → AllByRecursion (RuledIn dist floor) (near_of floor radius h es)
   near_ruled zero es u = tt
   near_ruled (suc h) [] u = tt
   near_ruled (suc h) (b ∷ bs) u = go (near radius (floor b.sets)) (near_ruled (suc h) bs u.3)
     where
-      go : (t : Bool) → All (RuledIn dist floor) (near_of floor radius (suc h) bs)
-          → All (RuledIn dist floor) (cond t ((h, b) ∷ []) [] ++ near_of floor radius (suc h) bs)
+      go : (t : Bool) → AllByRecursion (RuledIn dist floor) (near_of floor radius (suc h) bs)
+          → AllByRecursion (RuledIn dist floor) (cond t ((h, b) ∷ []) [] ++ near_of floor radius (suc h) bs)
       go true more = (u.2, more)
       go false more = more
 

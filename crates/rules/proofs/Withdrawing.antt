@@ -1,6 +1,6 @@
 -- The laws of withdrawing.
 use Rattle.std.proofs.Common.{◌≡◌, ℕ, zero, suc, ◌≤◌, List, [], ◌∷◌, ◌++◌, length, sym, refl, subst, arith}
-use Rattle.std.specs.List.{AllByRecursion as All}
+use Rattle.std.specs.List.{AllByRecursion}
 use Rattle.std.proofs.lemmas.List.{append-nil, length-append}
 use Rattle.rules.specs.Tree.{Entry, rows_below, rows_in}
 use Rattle.rules.specs.Rows.{without, rising}
@@ -28,7 +28,7 @@ fewest_three : (h n : ℕ) → 3 ≤ n → fewest h ≤ n
 fewest_three zero n l = omega arith
 fewest_three (suc h) n l = omega arith
 
-settled_build : (d h : ℕ) (es : List (Entry h)) → left_some h (length es) → length es ≤ 8 → All (Good d h) es → Build d (settled d h es)
+settled_build : (d h : ℕ) (es : List (Entry h)) → left_some h (length es) → length es ≤ 8 → AllByRecursion (Good d h) es → Build d (settled d h es)
 settled_build d zero es some l g = record { few = omega arith; many = l; root = refl; below = tt }
 settled_build d (suc h) [] some l g = absurd (omega arith)
 settled_build d (suc h) (b ∷ []) some l g =

@@ -1,7 +1,7 @@
 -- What holds while a search for the k nearest goes on. It is kept by opening any box that waits with the least floor, so a program may keep
 -- the boxes that wait in any order.
 use Rattle.std.specs.Prelude.{◌≡◌, ℕ, ◌+◌, ◌≤◌, cond, List, [], ◌∷◌, ◌++◌, length, take, Option, nat_le}
-use Rattle.std.specs.List.{flat_map, AllByRecursion as All}
+use Rattle.std.specs.List.{flat_map, AllByRecursion}
 use Rattle.space.specs.Row.{Row}
 use Rattle.rules.specs.Tree.{Tree, rows_in, boxes_in}
 use Rattle.ranked.specs.declared.find.Find.{Find}
@@ -32,9 +32,9 @@ nearest_in dist k t = take k (ranking dist (rows_in t))
 pub record Going (dist : Row → Option ℕ) (floor : List ℕ → Option ℕ) (k : ℕ) (t : Tree) (F : List Find) (n : ℕ) (W : List Wait) : Type 0 where
   pub nears : InRank ahead F
   pub short : length F ≤ k
-  pub small : All (λ w. w.0 ≤ 4294967295) W
-  pub ruled : All (λ w. Ruled dist floor w.1.0 w.1.1.entries) W
-  pub bounds : All (λ w. All (λ y. w.0 ≤ y.distance) (finds_in dist w)) W
+  pub small : AllByRecursion (λ w. w.0 ≤ 4294967295) W
+  pub ruled : AllByRecursion (λ w. Ruled dist floor w.1.0 w.1.1.entries) W
+  pub bounds : AllByRecursion (λ w. AllByRecursion (λ y. w.0 ≤ y.distance) (finds_in dist w)) W
   pub finds : take k (ranked ahead (F ++ flat_map (finds_in dist) W)) ≡ nearest_in dist k t
   pub opens : n + total (opens_at floor (reach k (nearest_in dist k t))) W ≡ opened_in floor (reach k (nearest_in dist k t)) t
   pub sizes : n + total (λ w. boxes_in w.1) W ≤ boxes_in t
@@ -42,7 +42,7 @@ pub record Going (dist : Row → Option ℕ) (floor : List ℕ → Option ℕ) (
 -- What holds while a search within a radius goes on, in whatever order boxes are opened and hits are kept: H are the hits so far, n boxes are
 -- opened, and W waits.
 pub record Walking (dist : Row → Option ℕ) (floor : List ℕ → Option ℕ) (radius : ℕ) (t : Tree) (H : List Find) (n : ℕ) (W : List Tree) : Type 0 where
-  pub ruled : All (λ s. Ruled dist floor s.0 s.1.entries) W
+  pub ruled : AllByRecursion (λ s. Ruled dist floor s.0 s.1.entries) W
   pub finds : Same (H ++ flat_map (λ s. finds_of (within dist radius) (rows_in s)) W) (finds_of (within dist radius) (rows_in t))
   pub opens : n + total (opened_in floor radius) W ≡ opened_in floor radius t
   pub sizes : n + total boxes_in W ≤ boxes_in t

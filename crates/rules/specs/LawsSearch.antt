@@ -1,6 +1,6 @@
 -- What the searches over a tree find and open.
 use Rattle.std.specs.Prelude.{◌≡◌, ℕ, zero, suc, ◌≤◌, true, cond, List, [], ◌∷◌, ◌++◌, length, take, Option}
-use Rattle.std.specs.List.{AllByRecursion as All}
+use Rattle.std.specs.List.{AllByRecursion}
 use Rattle.space.specs.Boxes.{dimensions, small}
 use Rattle.space.specs.Row.{Row}
 use Rattle.measures.specs.Floor.{FloorRule}
@@ -24,7 +24,7 @@ Vector d r = (length r.letters ≡ d) × (small r.letters ≡ true)
 -- A measure's rule, at one query, holds of every box of a tree of the build whose rows are vectors of d dimensions, d from 1 to 10.
 abbrev pub RulesHold : Type 0
 RulesHold = (distances floors : List ℕ → List ℕ → Option ℕ) → FloorRule distances floors → (q : List ℕ) (d : ℕ) (t : Tree) → dimensions d ≡ true
-    → Build d t → All (Vector d) (rows_in t) → Ruled (λ r. distances q r.letters) (floors q) t.0 t.1.entries
+    → Build d t → AllByRecursion (Vector d) (rows_in t) → Ruled (λ r. distances q r.letters) (floors q) t.0 t.1.entries
 
 -- the rows of the leaves that a search within the radius opens
 abbrev pub visited : (List ℕ → Option ℕ) → ℕ → (h : ℕ) → List (Entry h) → List Row

@@ -1,6 +1,6 @@
 -- The searches over a tree as machines: what is found, how many boxes are opened, and what waits.
 use Rattle.std.specs.Prelude.{ℕ, zero, suc, Bool, cond, List, [], ◌∷◌, ◌++◌, Some, None, Option, nat_le, nat_lt}
-use Rattle.std.specs.List.{AllByRecursion as All}
+use Rattle.std.specs.List.{AllByRecursion}
 use Rattle.ranked.specs.declared.find.Find.{Find}
 use Rattle.ranked.specs.Find.{ahead}
 use Rattle.ranked.specs.Rank.{place, keep_first}
@@ -53,7 +53,7 @@ abbrev pub Ruled : (Row → Option ℕ) → (List ℕ → Option ℕ) → (h : �
 Ruled dist floor zero es = Unit {0}
 Ruled dist floor (suc h) [] = Unit {0}
 Ruled dist floor (suc h) (b ∷ bs) =
-    Bounded (floor b.sets) × All (λ r. Under (floor b.sets) (dist r)) (rows_below h b.entries) × Ruled dist floor h b.entries × Ruled dist floor (suc h) bs
+    Bounded (floor b.sets) × AllByRecursion (λ r. Under (floor b.sets) (dist r)) (rows_below h b.entries) × Ruled dist floor h b.entries × Ruled dist floor (suc h) bs
 
 -- the boxes among some entries whose floor is not above the radius
 abbrev pub near_of : (List ℕ → Option ℕ) → ℕ → (h : ℕ) → List (Entry h) → List Tree

@@ -1,6 +1,6 @@
 -- What holds of a catalogue after every run of calls.
 use Rattle.std.specs.Prelude.{◌≡◌, ℕ, ◌*◌, ◌≤◌, List, [], length}
-use Rattle.std.specs.List.{AllByRecursion as All}
+use Rattle.std.specs.List.{AllByRecursion}
 use Rattle.ranked.specs.Same.{Same}
 use Rattle.space.specs.Row.{Row}
 use Rattle.rules.specs.Tree.{Tree, empty, rows_in, boxes_in}
@@ -18,7 +18,7 @@ pub record Kept (plan : List ℕ) (capacity : ℕ) (calls : List Call) (t : Tree
   pub tree : t ≡ grown plan capacity [] (empty (length plan)) calls
   pub build : Build (length plan) t
   pub entries : Same (registered plan capacity [] calls) (rows_in t)
-  pub proper : All (Proper plan) (registered plan capacity [] calls)
+  pub proper : AllByRecursion (Proper plan) (registered plan capacity [] calls)
   pub once : Once (registered plan capacity [] calls)
   pub room : length (registered plan capacity [] calls) ≤ capacity
   pub boxes : 2 ≤ length (registered plan capacity [] calls) → 2 * boxes_in t ≤ length (registered plan capacity [] calls)

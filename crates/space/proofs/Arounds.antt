@@ -1,7 +1,7 @@
 -- The smallest box around some boxes, and the vectors in it.
 use Rattle.std.proofs.Common.{◌≡◌, ℕ, zero, suc, ◌<◌, Bool, true, false, ◌||◌, leb, List, [], ◌∷◌, ◌++◌, length, get_or, replicate, sym, refl, ap, ◌∙◌, ap₂, arith}
 use lib.Bits.{bit_or}
-use Rattle.std.specs.List.{AllByRecursion as All}
+use Rattle.std.specs.List.{AllByRecursion}
 use Rattle.std.proofs.lemmas.List.{length-replicate, get_or-replicate, take_all, drop_all, append-nil}
 use Rattle.std.proofs.lemmas.Bool.{and_parts, and_from, or_left, or_right, leb-true}
 use Rattle.space.specs.Boxes.{has, in_box, small, join, only, point, joined, around}
@@ -34,7 +34,7 @@ or_assoc : (x y z : Bool) → ((x || y) || z) ≡ (x || (y || z))
 or_assoc true y z = refl
 or_assoc false y z = refl
 
-pub joined_has : (d : ℕ) (a : List ℕ) (bs : List (List ℕ)) (i l : ℕ) → length a ≡ d → All (λ b. length b ≡ d) bs → i < d
+pub joined_has : (d : ℕ) (a : List ℕ) (bs : List (List ℕ)) (i l : ℕ) → length a ≡ d → AllByRecursion (λ b. length b ≡ d) bs → i < d
     → has (get_or (joined a bs) i 0) l ≡ (has (get_or a i 0) l || occurs i l bs)
 joined_has d a [] i l e f h = go (has (get_or a i 0) l)
   where
@@ -75,7 +75,7 @@ pub in_joined_first : (v a : List ℕ) (bs : List (List ℕ)) → in_box v a ≡
 in_joined_first v a [] h = h
 in_joined_first v a (b ∷ bs) h = in_joined_first v (join a b) bs (in_join_left v a b h)
 
-pub in_joined : (d : ℕ) (v a : List ℕ) (bs : List (List ℕ)) (k : ℕ) → length a ≡ d → All (λ b. length b ≡ d) bs → k < length bs → in_box v (get_or bs k []) ≡ true → in_box v (joined a bs) ≡ true
+pub in_joined : (d : ℕ) (v a : List ℕ) (bs : List (List ℕ)) (k : ℕ) → length a ≡ d → AllByRecursion (λ b. length b ≡ d) bs → k < length bs → in_box v (get_or bs k []) ≡ true → in_box v (joined a bs) ≡ true
 in_joined d v a [] k e f l h = absurd (omega arith)
 in_joined d v a (b ∷ bs) zero e f l h = in_joined_first v (join a b) bs (in_join_right v a b (e ∙ sym f.0) h)
 in_joined d v a (b ∷ bs) (suc k) e f l h = in_joined d v (join a b) bs k (length_join a b ∙ e) f.1 (omega arith) h

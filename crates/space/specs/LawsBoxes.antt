@@ -1,6 +1,6 @@
 -- What holds of boxes, in the words of the rules.
 use Rattle.std.specs.Prelude.{◌≡◌, ℕ, ◌^◌, ◌<◌, ◌≤◌, Bool, true, false, ◌||◌, List, [], ◌∷◌, length, slice_index, slice_index_or}
-use Rattle.std.specs.List.{AllByRecursion as All}
+use Rattle.std.specs.List.{AllByRecursion}
 use Rattle.space.specs.Boxes.{has, in_box, small, words, area, common, meet, point, around}
 
 -- in each dimension that both boxes have, the third has exactly the letters of the one or the other
@@ -14,12 +14,12 @@ occurs i l (b ∷ bs) = has (slice_index b i) l || occurs i l bs
 
 -- The smallest box around boxes of d dimensions has d dimensions, and in each exactly the letters that occur in one of the boxes.
 abbrev pub AroundExact : Type 0
-AroundExact = (d : ℕ) (bs : List (List ℕ)) → All (λ b. length b ≡ d) bs
+AroundExact = (d : ℕ) (bs : List (List ℕ)) → AllByRecursion (λ b. length b ≡ d) bs
     → (length (around d bs) ≡ d) × ((i l : ℕ) → i < d → has (slice_index (around d bs) i) l ≡ occurs i l bs)
 
 -- a vector in one of the boxes is in the smallest box around them
 abbrev pub InAround : Type 0
-InAround = (d : ℕ) (bs : List (List ℕ)) (v : List ℕ) (k : ℕ) → All (λ b. length b ≡ d) bs → k < length bs
+InAround = (d : ℕ) (bs : List (List ℕ)) (v : List ℕ) (k : ℕ) → AllByRecursion (λ b. length b ≡ d) bs → k < length bs
     → in_box v (slice_index_or bs k []) ≡ true → in_box v (around d bs) ≡ true
 
 -- a vector is in its own box

@@ -2,7 +2,7 @@
 use Rattle.std.proofs.Common.{◌≡◌, ℕ, zero, suc, ◌+◌, ◌-◌, ◌*◌, ◌<◌, ◌≤◌, max, Bool, true, false, cond, not, ◌||◌, eqb, ltb, leb, List, [], ◌∷◌, ◌++◌, map, length, get_or, take, replicate, is_some, Some, None, Ok, Err, vec_items, Option, sym, refl, ap, ◌∙◌, subst, ap₂, ⊎_elim, add-one, arith}
 use native.Mathlib.Nat.{le-max_left, le-max_right}
 use Rattle.std.specs.Option.{option_map}
-use Rattle.std.specs.List.{AllByRecursion as All}
+use Rattle.std.specs.List.{AllByRecursion}
 use Rattle.std.proofs.ByRecursion.{All-weaker}
 use Rattle.std.proofs.lemmas.List.{get_or_append_left, get_or-append_right}
 use Rattle.std.proofs.lemmas.Bool.{cases_lt, false≢true, eq-eqb, ne_eqb, eqb-true, ltb-true, le-leb, lt-leb, le-ltb, lt-ltb}
@@ -57,7 +57,7 @@ does_done x y call e s t = record {
 }
 
 -- ---- numbers above the highest are not listed
-pub none_above : (n top : ℕ) (rows : List Row) → All (λ r. r.number ≤ top) rows → top < n → lists n rows ≡ false
+pub none_above : (n top : ℕ) (rows : List Row) → AllByRecursion (λ r. r.number ≤ top) rows → top < n → lists n rows ≡ false
 none_above n top [] a l = refl
 none_above n top (r ∷ rs) a l = ap₂ (λ x y. x || y) (ne_eqb r.number n (λ e. omega (arith, a.0))) (none_above n top rs a.1 l)
 
@@ -80,7 +80,7 @@ module _ (d : ℕ) (t : Tree) (r : Row) (same : Same (r ∷ rows_in t) (rows_in 
           go true e = let z = eqb-true r.number m e in omega (arith, subst (λ n. times n (rows_in t) ≡ 0) z (unlisted_times r.number (rows_in t) new))
           go false e = omega (arith, once_single (rows_in t) once m)
 
-  more_below : (top : ℕ) → All (λ x. x.number ≤ top) (rows_in t) → All (λ x. x.number ≤ max top r.number) (rows_in (entered d t r))
+  more_below : (top : ℕ) → AllByRecursion (λ x. x.number ≤ top) (rows_in t) → AllByRecursion (λ x. x.number ≤ max top r.number) (rows_in (entered d t r))
   more_below top a =
       all_same (λ x. x.number ≤ max top r.number) same
       (le-max_right top r.number, All-weaker (λ x. x.number ≤ top) (λ x. x.number ≤ max top r.number) (λ x h. omega (arith, le-max_left top r.number)) (rows_in t) a)
@@ -99,8 +99,8 @@ whole_entered plan c n top N M F t h i clip u g j own w p new room =
       stands = stands_entered d c N M F t h i clip u g j w.stands p room;
       once = subst (λ x. Once (rows_in x)) (sym p.tree) (more_once d before row same w.once new);
       count = omega (arith, w.count, entered_more d c N M F t h i clip u g j w.stands p);
-      below = subst (λ x. All (λ r. r.number ≤ max top clip.number) (rows_in x)) (sym p.tree) (more_below d before row same top w.below);
-      proper = subst (λ x. All (λ r. is_some (vector_fault plan r.letters) ≡ false) (rows_in x)) (sym p.tree) (all_same (λ r. is_some (vector_fault plan r.letters) ≡ false) same (own, w.proper));
+      below = subst (λ x. AllByRecursion (λ r. r.number ≤ max top clip.number) (rows_in x)) (sym p.tree) (more_below d before row same top w.below);
+      proper = subst (λ x. AllByRecursion (λ r. is_some (vector_fault plan r.letters) ≡ false) (rows_in x)) (sym p.tree) (all_same (λ r. is_some (vector_fault plan r.letters) ≡ false) same (own, w.proper));
     }
 
 -- ---- a row less
@@ -119,8 +119,8 @@ whole_left plan c n top N M F G t h i number u g j w p listed =
       stands = p.stands c w.stands;
       once = subst (λ x. Once (rows_in x)) (sym p.tree) (once_same _ _ same (less_once number (rows_in before) w.once));
       count = omega (arith, w.count, ap (λ x. length (rows_in x)) p.tree, length_same same, fewer, one, single);
-      below = subst (λ x. All (λ r. r.number ≤ top) (rows_in x)) (sym p.tree) (all_same (λ r. r.number ≤ top) same (all_without (λ r. r.number ≤ top) number (rows_in before) w.below));
-      proper = subst (λ x. All (λ r. is_some (vector_fault plan r.letters) ≡ false) (rows_in x)) (sym p.tree)
+      below = subst (λ x. AllByRecursion (λ r. r.number ≤ top) (rows_in x)) (sym p.tree) (all_same (λ r. r.number ≤ top) same (all_without (λ r. r.number ≤ top) number (rows_in before) w.below));
+      proper = subst (λ x. AllByRecursion (λ r. is_some (vector_fault plan r.letters) ≡ false) (rows_in x)) (sym p.tree)
           (all_same (λ r. is_some (vector_fault plan r.letters) ≡ false) same (all_without (λ r. is_some (vector_fault plan r.letters) ≡ false) number (rows_in before) w.proper));
     }
   where
@@ -139,7 +139,7 @@ whole_empty plan c n top N F t h i e w = record {
   proper = w.proper;
 }
   where
-    none : (rows : List Row) → length rows ≡ 0 → All (λ r. r.number ≤ 0) rows
+    none : (rows : List Row) → length rows ≡ 0 → AllByRecursion (λ r. r.number ≤ 0) rows
     none [] e = tt
     none (r ∷ rs) e = absurd (omega arith)
 
@@ -195,7 +195,7 @@ module _ (rows : List Row) (n words : ℕ) where
   withdraw_fine e q l = sym (withdraw_by false true false (ne_eqb n 0 e) q (le-ltb words (2 * length rows) l))
 
 -- ---- a proper clip of a plan of sizes up to 64, stored
-good_small : (i : ℕ) (plan v : List ℕ) → All (λ s. s ≤ 64) plan → bad_letter (suc i) plan v ≡ 0 → (k : ℕ) → get_or v k 0 < 64
+good_small : (i : ℕ) (plan v : List ℕ) → AllByRecursion (λ s. s ≤ 64) plan → bad_letter (suc i) plan v ≡ 0 → (k : ℕ) → get_or v k 0 < 64
 good_small i plan [] a e k = omega arith
 good_small i [] (l ∷ v) a e k = absurd (omega arith)
 good_small i (s ∷ plan) (l ∷ v) a e zero = go (ltb l s) refl e
@@ -209,7 +209,7 @@ good_small i (s ∷ plan) (l ∷ v) a e (suc k) = good_small (suc i) plan v a.1 
     go true q = q
     go false q = absurd (omega arith)
 
-pub stored_row_lem : (plan : List ℕ) (n : ℕ) (v : List ℕ) (c : StoredClip) → length plan ≤ 10 → All (λ s. s ≤ 64) plan → of_clip plan n v ≡ None → c ≡ stored_as (record { number = n; letters = v })
+pub stored_row_lem : (plan : List ℕ) (n : ℕ) (v : List ℕ) (c : StoredClip) → length plan ≤ 10 → AllByRecursion (λ s. s ≤ 64) plan → of_clip plan n v ≡ None → c ≡ stored_as (record { number = n; letters = v })
     → Lettered c × (stored_row (length plan) c ≡ record { number = n; letters = v })
 stored_row_lem plan n v c ten small e is =
     let p = clip_open plan n v e in

@@ -1,6 +1,6 @@
 -- A clip entered at a box above the leaves: one of its entries has grown.
 use Rattle.std.proofs.Common.{◌≡◌, ℕ, zero, suc, ◌+◌, ◌-◌, ◌/◌, ◌<◌, ◌≤◌, Bool, true, false, cond, eqb, List, [], ◌∷◌, ◌++◌, map, length, get_or, take, drop, set, Some, None, Option, sym, refl, ap, ◌∙◌, subst, ap₂, arith, length-set}
-use Rattle.std.specs.List.{AllByRecursion as All}
+use Rattle.std.specs.List.{AllByRecursion}
 use Rattle.std.proofs.lemmas.List.{length-map, length-take, map-append, append-nil, get_or-map}
 use Rattle.std.proofs.ByRecursion.{All-append, All-get_or}
 use Rattle.std.proofs.lemmas.Bool.{eqb-true, eq-eqb, ne_eqb, false≢true}
@@ -32,7 +32,7 @@ total_cond : (f : NodeEntry → ℕ) (b : Bool) (x : NodeEntry) → total f (con
 total_cond f true x = omega arith
 total_cond f false x = refl
 
-all_cond : (P : NodeEntry → Type 0) (b : Bool) (x : NodeEntry) → (b ≡ true → P x) → All P (cond b (x ∷ []) [])
+all_cond : (P : NodeEntry → Type 0) (b : Bool) (x : NodeEntry) → (b ≡ true → P x) → AllByRecursion P (cond b (x ∷ []) [])
 all_cond P true x h = (h refl, tt)
 all_cond P false x h = tt
 
@@ -83,7 +83,7 @@ module _ (d : ℕ) (N : List Node) (spare : List ℕ) (g i : ℕ) (clip : Stored
           times_spot N g (get_or (inside (node N i)) p no_entry) k,
         )
 
-    pub sounds_after : All (Sound M (suc g)) after
+    pub sounds_after : AllByRecursion (Sound M (suc g)) after
     unfolding Sound
     sounds_after =
         All-append (Sound M (suc g)) (inside (node N i)) (cond (eqb u (suc g)) (spot (get_or spare g 0) ∷ []) [])
@@ -159,11 +159,11 @@ module _ (d : ℕ) (N : List Node) (spare : List ℕ) (g i : ℕ) (clip : Stored
     unfolding Sound
     at_parts = (omega (arith, gr.long, s.0), subst (λ n. 1 ≤ n.len) (sym own) s.1, subst (λ n. n.len ≤ 8) (sym own) s.2)
 
-    pub keep_sound : eqb u (suc g) ≡ false → All (Sound M (suc g)) (inside (node M i))
-    keep_sound e = subst (All (Sound M (suc g))) (after_one e) sounds_after
+    pub keep_sound : eqb u (suc g) ≡ false → AllByRecursion (Sound M (suc g)) (inside (node M i))
+    keep_sound e = subst (AllByRecursion (Sound M (suc g))) (after_one e) sounds_after
 
-    pub more_sound : eqb u (suc g) ≡ true → All (Sound M (suc g)) (inside (node M i) ++ spot (get_or spare g 0) ∷ [])
-    more_sound e = subst (All (Sound M (suc g))) (after_two e) sounds_after
+    pub more_sound : eqb u (suc g) ≡ true → AllByRecursion (Sound M (suc g)) (inside (node M i) ++ spot (get_or spare g 0) ∷ [])
+    more_sound e = subst (AllByRecursion (Sound M (suc g))) (after_two e) sounds_after
 
     pub more_apart : eqb u (suc g) ≡ true → Apart M (suc g) i (get_or spare (suc g) 0) (inside (node M i) ++ spot (get_or spare g 0) ∷ [])
     more_apart e = subst (Apart M (suc g) i (get_or spare (suc g) 0)) (after_two e) after_apart

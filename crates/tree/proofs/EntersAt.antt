@@ -1,6 +1,6 @@
 -- The steps of a recursion over the height, which is more than 0: what each asks, and what it leaves.
 use Rattle.std.proofs.Common.{◌≡◌, ℕ, zero, suc, ◌+◌, ◌-◌, ◌<◌, ◌≤◌, Bool, true, false, cond, eqb, List, [], ◌∷◌, ◌++◌, map, length, get_or, take, sym, refl, ap, ◌∙◌, subst, ap₂, arith}
-use Rattle.std.specs.List.{AllByRecursion as All}
+use Rattle.std.specs.List.{AllByRecursion}
 use Rattle.std.proofs.lemmas.Bool.{eq-eqb, ne_eqb}
 use Rattle.space.specs.Boxes.{point}
 use Rattle.space.specs.Row.{Row}
@@ -53,7 +53,7 @@ module _ (d : ℕ) (N : List Node) (spare : List ℕ) (i : ℕ) (clip : StoredCl
     below g gr = subst (λ m. EnteredBelow d N M spare m (place_in (child (suc g))) clip u) (sym (down g)) gr
 
     pub ask_keep : (h : ℕ) → Known h → EnteredBelow d N M spare (h - 1) (place_in (child h)) clip u → u < h
-        → (i < length M) × (1 ≤ (node M i).len) × ((node M i).len ≤ 8) × All (Sound M h) (inside (node M i))
+        → (i < length M) × (1 ≤ (node M i).len) × ((node M i).len ≤ 8) × AllByRecursion (Sound M h) (inside (node M i))
     ask_keep zero w gr l = absurd (w.0 refl)
     ask_keep (suc g) w gr l =
         let q = at_parts d N spare g i clip (place_of d N (suc g) i clip) w.1 w.2 w.3 M u w.4 (below g gr) in
@@ -69,12 +69,12 @@ module _ (d : ℕ) (N : List Node) (spare : List ℕ) (i : ℕ) (clip : StoredCl
     all_used g gr l = eq-eqb u (suc g) (omega (arith, gr.used))
 
     pub ask_more : (h : ℕ) → Known h → EnteredBelow d N M spare (h - 1) (place_in (child h)) clip u → h ≤ u
-        → (i < length M) × ((node M i).len ≤ 8) × All (Sound M h) (inside (node M i) ++ spot (get_or spare (h - 1) 0) ∷ []) × Apart M h i (get_or spare h 0) (inside (node M i) ++ spot (get_or spare (h - 1) 0) ∷ [])
+        → (i < length M) × ((node M i).len ≤ 8) × AllByRecursion (Sound M h) (inside (node M i) ++ spot (get_or spare (h - 1) 0) ∷ []) × Apart M h i (get_or spare h 0) (inside (node M i) ++ spot (get_or spare (h - 1) 0) ∷ [])
     ask_more zero w gr l = absurd (w.0 refl)
     ask_more (suc g) w gr l =
         let q = at_parts d N spare g i clip (place_of d N (suc g) i clip) w.1 w.2 w.3 M u w.4 (below g gr) in
         let b = all_used g (below g gr) l in
-        let P : ℕ → Type 0 = λ m. All (Sound M (suc g)) (inside (node M i) ++ spot (get_or spare m 0) ∷ []) × Apart M (suc g) i (get_or spare (suc g) 0) (inside (node M i) ++ spot (get_or spare m 0) ∷ []) in
+        let P : ℕ → Type 0 = λ m. AllByRecursion (Sound M (suc g)) (inside (node M i) ++ spot (get_or spare m 0) ∷ []) × Apart M (suc g) i (get_or spare (suc g) 0) (inside (node M i) ++ spot (get_or spare m 0) ∷ []) in
         let x = subst P (down g)
         (more_sound d N spare g i clip (place_of d N (suc g) i clip) w.1 w.2 w.3 M u w.4 (below g gr) b, more_apart d N spare g i clip (place_of d N (suc g) i clip) w.1 w.2 w.3 M u w.4 (below g gr) b) in
         (q.0, q.2, x.0, x.1)
@@ -86,7 +86,7 @@ module _ (d : ℕ) (N : List Node) (spare : List ℕ) (i : ℕ) (clip : StoredCl
         more_grown d N spare g i clip (place_of d N (suc g) i clip) w.1 w.2 w.3 M u w.4 (below g gr) (place_is d N (suc g) i clip) L (all_used g (below g gr) l) r
         (subst (λ m. Fitted d M L (suc g) i (get_or spare (suc g) 0) (inside (node M i) ++ spot (get_or spare m 0) ∷ []) r) (sym (down g)) t)
 
-pub sound_parts : (N : List Node) (h i : ℕ) → Sound N (suc h) (spot i) → (i < length N) × (least h ≤ (node N i).len) × ((node N i).len ≤ 8) × All (Sound N h) (inside (node N i))
+pub sound_parts : (N : List Node) (h i : ℕ) → Sound N (suc h) (spot i) → (i < length N) × (least h ≤ (node N i).len) × ((node N i).len ≤ 8) × AllByRecursion (Sound N h) (inside (node N i))
 unfolding Sound
 sound_parts N h i s = s
 
@@ -101,7 +101,7 @@ module _ (d : ℕ) (N : List Node) (spare : List ℕ) (i : ℕ) (clip : StoredCl
   clip_sound l = l
 
   pub ask_leaf : (h : ℕ) → h ≡ 0 → h < length spare → Lettered clip → Sound N (suc h) (spot i) → ((k : ℕ) → times N (suc h) (spot i) k + held spare (suc h) k ≤ 1)
-      → All (Sound N h) (inside (node N i) ++ kind.Clip clip ∷ []) × Apart N h i (get_or spare h 0) (inside (node N i) ++ kind.Clip clip ∷ [])
+      → AllByRecursion (Sound N h) (inside (node N i) ++ kind.Clip clip ∷ []) × Apart N h i (get_or spare h 0) (inside (node N i) ++ kind.Clip clip ∷ [])
   ask_leaf zero e l in-C s a =
       (All-append (Sound N 0) (inside (node N i)) (kind.Clip clip ∷ []) (sound_parts N 0 i s).3 (clip_sound in-C, tt), leaf_apart d N spare i clip l a (inside (node N i) ++ kind.Clip clip ∷ []))
   ask_leaf (suc h) e l in-C s a = absurd (omega arith)

@@ -1,6 +1,6 @@
 -- A clip entered at the root.
 use Rattle.std.proofs.Common.{◌≡◌, ℕ, zero, suc, ◌+◌, ◌-◌, ◌<◌, ◌≤◌, Bool, true, false, cond, eqb, List, [], ◌∷◌, ◌++◌, map, length, get_or, take, Some, None, Option, sym, refl, ap, ◌∙◌, subst, ap₂, arith}
-use Rattle.std.specs.List.{AllByRecursion as All}
+use Rattle.std.specs.List.{AllByRecursion}
 use Rattle.std.proofs.lemmas.Bool.{eq-eqb, ne_eqb}
 use Rattle.space.specs.Row.{Row}
 use Rattle.rules.specs.Tree.{Box, Entry, Tree, sets_of, boxed}
@@ -37,7 +37,7 @@ module _ (d : ℕ) (N M : List Node) (spare : List ℕ) (h i : ℕ) (clip : Stor
     both : (k : ℕ) → times M (suc h) (spot i) k + times M (suc h) (spot (get_or spare h 0)) k ≡ times N (suc h) (spot i) k + held spare (suc h) k
     both k = omega (arith, gr.count k, ap (λ b. cond b (times M (suc h) (spot (get_or spare h 0)) k) 0) divided, ap (λ m. held spare m k) all)
 
-    pub pair_sound : All (Sound M (suc h)) (spot i ∷ spot (get_or spare h 0) ∷ [])
+    pub pair_sound : AllByRecursion (Sound M (suc h)) (spot i ∷ spot (get_or spare h 0) ∷ [])
     pair_sound = (gr.sound, (gr.other all, tt))
 
     free : total (λ e. times M (suc h) e (get_or spare (suc h) 0)) (spot i ∷ spot (get_or spare h 0) ∷ []) ≡ 0

@@ -1,6 +1,6 @@
 -- Entries settled in one node, or divided over two.
 use Rattle.std.proofs.Common.{◌≡◌, ℕ, zero, suc, ◌+◌, ◌-◌, ◌/◌, ◌<◌, ◌≤◌, Bool, true, false, cond, eqb, List, [], ◌∷◌, ◌++◌, map, length, get_or, take, drop, set, Some, None, Option, sym, refl, ap, ◌∙◌, subst, ap₂, arith, length-set}
-use Rattle.std.specs.List.{AllByRecursion as All}
+use Rattle.std.specs.List.{AllByRecursion}
 use Rattle.std.proofs.lemmas.List.{length-map}
 use Rattle.std.proofs.lemmas.Bool.{eqb-true, eq-eqb, cases_eq, ne_eqb, false≢true}
 use Rattle.space.specs.Boxes.{around, has}
@@ -54,7 +54,7 @@ least_some (suc h) n l = omega arith
 abbrev pub Apart : List Node → ℕ → ℕ → ℕ → List NodeEntry → Type 0
 Apart N h i j es = (k : ℕ) → one i k + one j k + total (λ e. times N h e k) es ≤ 1
 
-module _ (d : ℕ) (N : List Node) (h i j : ℕ) (es : List NodeEntry) (inN : i < length N) (apart : Apart N h i j es) (s : All (Sound N h) es) where
+module _ (d : ℕ) (N : List Node) (h i j : ℕ) (es : List NodeEntry) (inN : i < length N) (apart : Apart N h i j es) (s : AllByRecursion (Sound N h) es) where
   pub settled_one : (M : List Node) → Written d N M h i es → 0 < length es → length es ≤ 8 → Fitted d N M h i j es false
   settled_one M p some few =
       let free : total (λ e. times N h e i) es ≡ 0 = omega (arith, apart i, one_self i) in
@@ -70,7 +70,7 @@ module _ (d : ℕ) (N : List Node) (h i j : ℕ) (es : List NodeEntry) (inN : i 
       }
 
   -- the second side stands as it did once the first is put
-  pub second_side : (M : List Node) (code : ℕ) → Written d N M h i (group false code es) → (length M ≡ length N) × All (Sound M h) (group true code es)
+  pub second_side : (M : List Node) (code : ℕ) → Written d N M h i (group false code es) → (length M ≡ length N) × AllByRecursion (Sound M h) (group true code es)
   second_side M code p =
       let parts = total_group (λ e. times N h e i) code es in
       let free : total (λ x. times N h x i) (group true code es) ≡ 0 = omega (arith, apart i, one_self i) in

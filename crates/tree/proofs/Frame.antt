@@ -1,6 +1,6 @@
 -- A tree reads only its own places.
 use Rattle.std.proofs.Common.{◌≡◌, ℕ, zero, suc, ◌+◌, ◌<◌, ◌≤◌, Bool, true, false, cond, eqb, List, [], ◌∷◌, ◌++◌, map, length, get_or, take, drop, sym, refl, ap, ◌∙◌, subst, arith}
-use Rattle.std.specs.List.{AllByRecursion as All}
+use Rattle.std.specs.List.{AllByRecursion}
 use Rattle.std.proofs.lemmas.Bool.{eq-eqb}
 use Rattle.space.specs.Row.{Row}
 use Rattle.rules.specs.Tree.{Box, Entry, Tree, sets_of, boxed}
@@ -80,7 +80,7 @@ module _ (N M : List Node) where
       rw (root_same h i a) (omega arith)
 
   pub sounds_frame : (h : ℕ) → ((i : NodeEntry) → Agree N M h i → Sound N h i → Sound M h i)
-      → (es : List NodeEntry) → Agrees N M h es → All (Sound N h) es → All (Sound M h) es
+      → (es : List NodeEntry) → Agrees N M h es → AllByRecursion (Sound N h) es → AllByRecursion (Sound M h) es
   sounds_frame h ih [] a s = tt
   sounds_frame h ih (e ∷ es) a s =
       (ih e (λ k q. a k (omega arith)) s.0, sounds_frame h ih es (λ k q. a k (omega arith)) s.1)
@@ -99,5 +99,5 @@ module _ (N M : List Node) where
   pub totals_same : (h : ℕ) (es : List NodeEntry) → Agrees N M h es → (k : ℕ) → total (λ e. times M h e k) es ≡ total (λ e. times N h e k) es
   totals_same h es a = totals_frame h (times_frame h) es a
 
-  pub sounds_same : length M ≡ length N → (h : ℕ) (es : List NodeEntry) → Agrees N M h es → All (Sound N h) es → All (Sound M h) es
+  pub sounds_same : length M ≡ length N → (h : ℕ) (es : List NodeEntry) → Agrees N M h es → AllByRecursion (Sound N h) es → AllByRecursion (Sound M h) es
   sounds_same l h es a = sounds_frame h (sound_frame l h) es a

@@ -1,6 +1,6 @@
 -- Where a number is; the entries of a node but one, or but those of a number.
 use Rattle.std.proofs.Common.{◌≡◌, ℕ, zero, suc, ◌+◌, ◌-◌, ◌*◌, ◌/◌, ◌%◌, ◌^◌, ◌<◌, ◌≤◌, Bool, true, false, cond, ◌||◌, eqb, List, [], ◌∷◌, ◌++◌, map, length, get_or, take, drop, set, sym, refl, ap, ◌∙◌, subst, ap₂, pow-suc, div-one, arith}
-use Rattle.std.specs.List.{AllByRecursion as All}
+use Rattle.std.specs.List.{AllByRecursion}
 use Rattle.std.proofs.lemmas.List.{drop_more, drop_all, take_more_set, append_assoc, append-nil}
 use Rattle.std.proofs.lemmas.Bool.{or_right, or_left, or_from, eq-eqb, ne_eqb}
 use Rattle.space.specs.Boxes.{has}
@@ -48,7 +48,7 @@ module _ (d : ℕ) (N : List Node) (n : ℕ) where
   lists_nil zero = refl
   lists_nil (suc h) = refl
 
-  pub lists_none : (h : ℕ) (es : List NodeEntry) → All (λ e. listed_in d N h n e ≡ false) es → lists n (rows_below h (map (entry_of d N h) es)) ≡ false
+  pub lists_none : (h : ℕ) (es : List NodeEntry) → AllByRecursion (λ e. listed_in d N h n e ≡ false) es → lists n (rows_below h (map (entry_of d N h) es)) ≡ false
   lists_none h [] a = lists_nil h
   lists_none h (e ∷ es) a = lists_cons h e es ∙ or_from (listed_in d N h n e) (lists n (rows_below h (map (entry_of d N h) es))) a.0 (lists_none h es a.1)
 
@@ -102,11 +102,11 @@ kept_passes number es out all i n l t e = ap (λ y. take n out ++ y) (sym (kept_
 pub kept_end : (number : ℕ) (es out all : List NodeEntry) (i n : ℕ) → length es ≤ i → take n out ++ kept number (drop i es) ≡ all → take n out ≡ all
 kept_end number es out all i n l e = sym (append-nil (take n out)) ∙ ap (λ x. take n out ++ kept number x) (sym (drop_all i es l)) ∙ e
 
-cond_all : {E : Type 0} (P : E → Type 0) (t : Bool) (e : E) (es : List E) → P e → All P es → All P (cond t es (e ∷ es))
+cond_all : {E : Type 0} (P : E → Type 0) (t : Bool) (e : E) (es : List E) → P e → AllByRecursion P es → AllByRecursion P (cond t es (e ∷ es))
 cond_all P true e es p q = q
 cond_all P false e es p q = (p, q)
 
-pub all_kept : (P : NodeEntry → Type 0) (n : ℕ) (es : List NodeEntry) → All P es → All P (kept n es)
+pub all_kept : (P : NodeEntry → Type 0) (n : ℕ) (es : List NodeEntry) → AllByRecursion P es → AllByRecursion P (kept n es)
 all_kept P n [] a = tt
 all_kept P n (e ∷ es) a = cond_all P (eqb (clip_in e).number n) e (kept n es) a.0 (all_kept P n es a.1)
 

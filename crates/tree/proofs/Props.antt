@@ -7,7 +7,7 @@ use mathlib.Core.Logic.{∥∥₁_elim}
 use mathlib.Core.List.{is_set}
 use native.Mathlib.Bridge.{le_prop}
 use native.Mathlib.Nat.{ℕ_set}
-use Rattle.std.specs.List.{AllByRecursion as All}
+use Rattle.std.specs.List.{AllByRecursion}
 use Rattle.space.specs.Row.{Row}
 use Rattle.space.specs.Boxes.{around}
 use Rattle.rules.specs.Tree.{Entry, Tree, sets_of}
@@ -19,7 +19,7 @@ use Rattle.tree.specs.Nodes.{node, inside, place_in, Sound}
 use Rattle.tree.specs.Leaving.{EachOnce}
 use Rattle.tree.specs.Standing.{Stands, Whole}
 
-all_prop : {X : Type 0} (P : X → Type 0) → ((x : X) → IsProp (P x)) → (xs : List X) → IsProp (All P xs)
+all_prop : {X : Type 0} (P : X → Type 0) → ((x : X) → IsProp (P x)) → (xs : List X) → IsProp (AllByRecursion P xs)
 all_prop P f [] p q = refl
 all_prop P f (x ∷ xs) p q = λ i. (f x p.0 q.0 i, all_prop P f xs p.1 q.1 i)
 

@@ -1,6 +1,6 @@
 -- The tree of an entry moved out, and what stands at an entry above height 0.
 use Rattle.std.proofs.Common.{◌≡◌, ℕ, zero, suc, ◌+◌, ◌-◌, ◌*◌, ◌<◌, ◌≤◌, Bool, true, false, cond, not, List, [], ◌∷◌, ◌++◌, map, length, get_or, take, drop, set, sym, refl, ap, ◌∙◌, subst, ap₂, add-one, arith, length-set}
-use Rattle.std.specs.List.{flat_map, AllByRecursion as All}
+use Rattle.std.specs.List.{flat_map, AllByRecursion}
 use Rattle.std.proofs.lemmas.List.{take_more, drop-set, take_all, length-append, length-take, flat_map_more, append-nil}
 use Rattle.space.specs.Row.{Row}
 use Rattle.rules.specs.Tree.{Box, Entry, rows_below}
@@ -26,26 +26,26 @@ flip_false true e = refl
 flip_false false e = e
 
 -- the parts of what stands above height 0, at the place q of the entry
-pub sound_up : (N : List Node) (h : ℕ) (e : NodeEntry) → (h ≡ 0 → ⊥) → Sound N h e → (q : ℕ) → q ≡ place_in e → (q < length N) × ((node N q).len ≤ 8) × All (Sound N (h - 1)) (inside (node N q))
+pub sound_up : (N : List Node) (h : ℕ) (e : NodeEntry) → (h ≡ 0 → ⊥) → Sound N h e → (q : ℕ) → q ≡ place_in e → (q < length N) × ((node N q).len ≤ 8) × AllByRecursion (Sound N (h - 1)) (inside (node N q))
 unfolding Sound
 sound_up N zero e ne s q is = absurd (ne refl)
 sound_up N (suc h) e ne s q is =
-    let P : ℕ → Type 0 = λ q. (q < length N) × ((node N q).len ≤ 8) × All (Sound N (suc h - 1)) (inside (node N q)) in
-    subst P (sym is) (s.0, s.2, subst (λ g. All (Sound N g) (inside (node N (place_in e)))) (down h) s.3)
+    let P : ℕ → Type 0 = λ q. (q < length N) × ((node N q).len ≤ 8) × AllByRecursion (Sound N (suc h - 1)) (inside (node N q)) in
+    subst P (sym is) (s.0, s.2, subst (λ g. AllByRecursion (Sound N g) (inside (node N (place_in e)))) (down h) s.3)
 
-pub within_up : (N : List Node) (h : ℕ) (e : NodeEntry) → (h ≡ 0 → ⊥) → Within N h e → (q : ℕ) → q ≡ place_in e → (q < length N) × ((node N q).len ≤ 8) × All (Within N (h - 1)) (inside (node N q))
+pub within_up : (N : List Node) (h : ℕ) (e : NodeEntry) → (h ≡ 0 → ⊥) → Within N h e → (q : ℕ) → q ≡ place_in e → (q < length N) × ((node N q).len ≤ 8) × AllByRecursion (Within N (h - 1)) (inside (node N q))
 unfolding Within
 within_up N zero e ne s q is = absurd (ne refl)
 within_up N (suc h) e ne s q is =
-    let P : ℕ → Type 0 = λ q. (q < length N) × ((node N q).len ≤ 8) × All (Within N (suc h - 1)) (inside (node N q)) in
-    subst P (sym is) (s.0, s.1, subst (λ g. All (Within N g) (inside (node N (place_in e)))) (down h) s.2)
+    let P : ℕ → Type 0 = λ q. (q < length N) × ((node N q).len ≤ 8) × AllByRecursion (Within N (suc h - 1)) (inside (node N q)) in
+    subst P (sym is) (s.0, s.1, subst (λ g. AllByRecursion (Within N g) (inside (node N (place_in e)))) (down h) s.2)
 
 pub within_leaf : (N : List Node) (h : ℕ) (e : NodeEntry) → h ≡ 0 → Within N h e → Lettered (clip_in e)
 unfolding Within
 within_leaf N zero e z s = s
 within_leaf N (suc h) e z s = absurd (omega arith)
 
-sounds_within : (N : List Node) (h : ℕ) → ((e : NodeEntry) → Sound N h e → Within N h e) → (es : List NodeEntry) → All (Sound N h) es → All (Within N h) es
+sounds_within : (N : List Node) (h : ℕ) → ((e : NodeEntry) → Sound N h e → Within N h e) → (es : List NodeEntry) → AllByRecursion (Sound N h) es → AllByRecursion (Within N h) es
 sounds_within N h ih [] s = tt
 sounds_within N h ih (e ∷ es) s = (ih e s.0, sounds_within N h ih es s.1)
 
@@ -54,10 +54,10 @@ unfolding Sound Within
 sound_within N zero e s = s
 sound_within N (suc h) e s = (s.0, s.2, sounds_within N h (sound_within N h) (inside (node N (place_in e))) s.3)
 
-pub all_within : (N : List Node) (h : ℕ) (es : List NodeEntry) → All (Sound N h) es → All (Within N h) es
+pub all_within : (N : List Node) (h : ℕ) (es : List NodeEntry) → AllByRecursion (Sound N h) es → AllByRecursion (Within N h) es
 all_within N h es s = sounds_within N h (sound_within N h) es s
 
-pub within_from : (N : List Node) (h : ℕ) (e : NodeEntry) → place_in e < length N → (node N (place_in e)).len ≤ 8 → All (Within N h) (inside (node N (place_in e))) → Within N (suc h) e
+pub within_from : (N : List Node) (h : ℕ) (e : NodeEntry) → place_in e < length N → (node N (place_in e)).len ≤ 8 → AllByRecursion (Within N h) (inside (node N (place_in e))) → Within N (suc h) e
 unfolding Within
 within_from N h e a b c = (a, b, c)
 
@@ -69,7 +69,7 @@ module _ (N : List Node) (n h : ℕ) (e : NodeEntry) (q : ℕ) (ne : h ≡ 0 →
   pub listed_found : (k : ℕ) → k < length es → listed_in d N (h - 1) n (get_or es k no_entry) ≡ true → listed_in d N h n e ≡ true
   listed_found k l t = up_is ∙ lists_some d N n (h - 1) es k l t
 
-  pub listed_not : All (λ x. listed_in d N (h - 1) n x ≡ false) es → listed_in d N h n e ≡ false
+  pub listed_not : AllByRecursion (λ x. listed_in d N (h - 1) n x ≡ false) es → listed_in d N h n e ≡ false
   listed_not a = up_is ∙ lists_none d N n (h - 1) es a
 
 -- ---- sums over a list that is walked

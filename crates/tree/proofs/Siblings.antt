@@ -1,6 +1,6 @@
 -- A clip entered at a leaf, and at a box above.
 use Rattle.std.proofs.Common.{◌≡◌, ℕ, zero, suc, ◌+◌, ◌-◌, ◌/◌, ◌<◌, ◌≤◌, Bool, true, false, cond, eqb, List, [], ◌∷◌, ◌++◌, map, length, get_or, take, drop, set, Some, None, Option, sym, refl, ap, ◌∙◌, subst, ap₂, add-one, arith, length-set}
-use Rattle.std.specs.List.{AllByRecursion as All}
+use Rattle.std.specs.List.{AllByRecursion}
 use Rattle.std.proofs.lemmas.List.{length-map, map-append, take_more, get_or-map}
 use Rattle.std.proofs.ByRecursion.{All-append, All-get_or}
 use Rattle.std.proofs.lemmas.Bool.{eqb-true, eq-eqb, cases_eq, ne_eqb, false≢true}
@@ -83,7 +83,7 @@ module _ (N M : List Node) (h : ℕ) where
       omega (arith, times_frame N M h e (head_agree c e es p (omega arith) is once rest) k, total_changed c es p (omega arith) is (down_once e es once) (down_rest c e es rest) k)
 
   pub sound_changed : length M ≡ length N → (c : NodeEntry) (es : List NodeEntry) (p : ℕ) → p < length es → get_or es p no_entry ≡ c → Once es → Rest c es
-      → Sound M h c → All (Sound N h) es → All (Sound M h) es
+      → Sound M h c → AllByRecursion (Sound N h) es → AllByRecursion (Sound M h) es
   sound_changed len c [] p l is once rest s all = tt
   sound_changed len c (e ∷ es) zero l is once rest s all =
       let r = subst (λ x. Rest x (e ∷ es)) (sym is) rest in

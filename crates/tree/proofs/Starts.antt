@@ -1,7 +1,7 @@
 -- An index as it is started.
 use Rattle.std.proofs.Common.{◌≡◌, ℕ, zero, suc, ◌+◌, ◌-◌, ◌/◌, ◌<◌, ◌≤◌, max, Bool, true, false, cond, not, ◌&&◌, eqb, ltb, leb, List, [], ◌∷◌, ◌++◌, map, length, get_or, take, drop, replicate, is_some, Some, None, vec_items, vec_len, Option, sym, refl, ap, ◌∙◌, subst, ap₂, subst₂, arith}
 use Rattle.std.specs.Option.{option_map}
-use Rattle.std.specs.List.{AllByRecursion as All}
+use Rattle.std.specs.List.{AllByRecursion}
 use Rattle.std.specs.Vec.{with_items}
 use Rattle.std.proofs.lemmas.List.{take-append-le, take_all, with_items_is}
 use Rattle.std.proofs.lemmas.Bool.{and_parts, leb-true, ltb-false}
@@ -29,7 +29,7 @@ pub record Fit (plan : List ℕ) (capacity boxes : ℕ) : Type 0 where
   pub fault : is_some (plan_fault plan) ≡ false
   pub some : 1 ≤ length plan
   pub axes : length plan ≤ 10
-  pub sizes : All (λ s. s ≤ 64) plan
+  pub sizes : AllByRecursion (λ s. s ≤ 64) plan
   pub most : capacity ≤ 4096
   pub room : max 1 (capacity / 2) ≤ boxes
 
@@ -37,11 +37,11 @@ not-false : (t : Bool) → not t ≡ false → t ≡ true
 not-false true e = refl
 not-false false e = sym e
 
-sizes_small : (i : ℕ) (plan : List ℕ) → bad_size (suc i) plan ≡ 0 → All (λ s. s ≤ 64) plan
+sizes_small : (i : ℕ) (plan : List ℕ) → bad_size (suc i) plan ≡ 0 → AllByRecursion (λ s. s ≤ 64) plan
 sizes_small i [] e = tt
 sizes_small i (s ∷ plan) e = go (leb 1 s) (leb s 64) (sizes_small (suc i) plan) refl e
   where
-    go : (a b : Bool) → (bad_size (suc (suc i)) plan ≡ 0 → All (λ s. s ≤ 64) plan) → leb s 64 ≡ b → cond (a && b) (bad_size (suc (suc i)) plan) (suc i) ≡ 0 → All (λ s. s ≤ 64) (s ∷ plan)
+    go : (a b : Bool) → (bad_size (suc (suc i)) plan ≡ 0 → AllByRecursion (λ s. s ≤ 64) plan) → leb s 64 ≡ b → cond (a && b) (bad_size (suc (suc i)) plan) (suc i) ≡ 0 → AllByRecursion (λ s. s ≤ 64) (s ∷ plan)
     go true true more p q = (leb-true s 64 p, more q)
     go true false more p q = absurd (omega arith)
     go false b more p q = absurd (omega arith)
@@ -119,8 +119,8 @@ module _ (plan : List ℕ) (capacity : ℕ) (N M : List Node) (F : List ℕ) (fi
         };
         once = λ i j r h l. absurd (omega (arith, ap length none));
         count = omega (arith, ap length none);
-        below = subst (All (λ r. r.number ≤ 0)) (sym none) tt;
-        proper = subst (All (λ r. is_some (vector_fault plan r.letters) ≡ false)) (sym none) tt;
+        below = subst (AllByRecursion (λ r. r.number ≤ 0)) (sym none) tt;
+        proper = subst (AllByRecursion (λ r. is_some (vector_fault plan r.letters) ≡ false)) (sym none) tt;
       }
 
 -- the same of a table whose first box was written

@@ -1,7 +1,7 @@
 -- How many boxes a tree has: each of its places once.
 use Rattle.std.proofs.Common.{◌≡◌, ℕ, zero, suc, ◌+◌, ◌-◌, ◌*◌, ◌/◌, ◌^◌, ◌<◌, ◌≤◌, max, Bool, true, false, cond, eqb, ltb, List, [], ◌∷◌, ◌++◌, map, length, get_or, take, drop, sym, refl, ap, ◌∙◌, subst, ap₂, ⊎_elim, suc-le-suc, zero-le, arith, lit<}
 use native.Mathlib.Nat.{le-max_left, le-max_right, max-le, pow-le-pow_right}
-use Rattle.std.specs.List.{AllByRecursion as All}
+use Rattle.std.specs.List.{AllByRecursion}
 use Rattle.std.proofs.lemmas.List.{length-drop}
 use Rattle.std.proofs.ByRecursion.{All-from_get_or}
 use Rattle.std.proofs.lemmas.Bool.{cases_lt, eq-eqb, ne_eqb, lt-ltb}
@@ -59,7 +59,7 @@ sum_all zero n l = refl
 sum_all (suc m) n l =
     let z : ◌≡◌ {A = ℕ} (cond (ltb m n) 1 0) 1 = ap (λ t. cond t 1 0) (lt-ltb m n (omega arith)) in omega (arith, sum_all m n (omega arith), z)
 
-total_same : {E : Type 0} (f g : E → ℕ) (P : E → Type 0) (es : List E) → ((e : E) → P e → f e ≡ g e) → All P es → total f es ≡ total g es
+total_same : {E : Type 0} (f g : E → ℕ) (P : E → Type 0) (es : List E) → ((e : E) → P e → f e ≡ g e) → AllByRecursion P es → total f es ≡ total g es
 total_same f g P [] h a = refl
 total_same f g P (e ∷ es) h a = ap₂ (λ x y. x + y) (h e a.0) (total_same f g P es h a.1)
 
@@ -77,10 +77,10 @@ times_count N (suc h) e s =
     ∙ ap₂ (λ x y. x + y) (sum_one (length N) (place_in e) s.0)
     (sum_total (length N) (times N h) es ∙ total_same (λ x. sum_to (length N) (times N h x)) (count_in N h) (Sound N h) es (λ x. times_count N h x) s.3)
 
-places_count : (n : ℕ) (ps : List ℕ) → All (λ p. p < n) ps → sum_to n (λ k. total (λ p. one p k) ps) ≡ length ps
+places_count : (n : ℕ) (ps : List ℕ) → AllByRecursion (λ p. p < n) ps → sum_to n (λ k. total (λ p. one p k) ps) ≡ length ps
 places_count n ps a = sum_total n one ps ∙ ones ps a
   where
-    ones : (qs : List ℕ) → All (λ p. p < n) qs → total (λ p. sum_to n (one p)) qs ≡ length qs
+    ones : (qs : List ℕ) → AllByRecursion (λ p. p < n) qs → total (λ p. sum_to n (one p)) qs ≡ length qs
     ones [] b = refl
     ones (q ∷ qs) b = omega (arith, sum_one n q b.0, ones qs b.1)
 
@@ -103,7 +103,7 @@ count_boxes d N (suc h) e =
 -- of each place once, in the tree or on the stack: the stack begins at the number of boxes in use
 pub used_count : (N : List Node) (F : List ℕ) (t h i : ℕ) → Sound N (suc h) (spot i) → EachOnce N F t h i → t ≤ length F → length F ≡ length N → t ≡ count_in N (suc h) (spot i)
 used_count N F t h i s each high stack =
-    let free : All (λ p. p < length N) (drop t F) = All-from_get_or (λ p. p < length N) (drop t F) 0 (ask_spares N F t h i each) in
+    let free : AllByRecursion (λ p. p < length N) (drop t F) = All-from_get_or (λ p. p < length N) (drop t F) 0 (ask_spares N F t h i each) in
     let all = sum_same (length N) (λ k. times N (suc h) (spot i) k + stock F t k) (λ k. cond (ltb k (length N)) 1 0) (λ k l. each k) ∙ sum_all (length N) (length N) (omega arith) in
     omega (arith, all, sum_add (length N) (times N (suc h) (spot i)) (stock F t), times_count N (suc h) (spot i) s, places_count (length N) (drop t F) free, length-drop t F)
 

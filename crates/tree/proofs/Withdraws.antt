@@ -1,6 +1,6 @@
 -- A number taken out below a node.
 use Rattle.std.proofs.Common.{◌≡◌, ℕ, zero, suc, ◌+◌, ◌-◌, ◌*◌, ◌<◌, ◌≤◌, Bool, true, false, cond, ◌||◌, ltb, List, [], ◌∷◌, ◌++◌, map, length, get_or, take, drop, set, sym, refl, ap, ◌∙◌, subst, ap₂, arith, length-set}
-use Rattle.std.specs.List.{flat_map, AllByRecursion as All}
+use Rattle.std.specs.List.{flat_map, AllByRecursion}
 use Rattle.std.proofs.lemmas.List.{length-map, length-append, length-take, length-drop, map-append, append-nil, append_assoc, get_or-map, take-map, drop-map}
 use Rattle.std.proofs.ByRecursion.{All-append, All-get_or, All-take, All-drop}
 use Rattle.std.proofs.lemmas.Bool.{lt-ltb, le-ltb}
@@ -105,8 +105,8 @@ module _ (d : ℕ) (N M : List Node) (h i : ℕ) (es : List NodeEntry) (p : Writ
       count_at M h i ∙ ap (λ x. 1 + total (count_in M h) x) put_inside
       ∙ ap (λ n. 1 + n) (measure_same N M h (count_in N h) (count_in M h) (count_frame N M h) es (put_agrees d N M h i es p free))
 
-  pub put_sounds : All (Sound N h) es → All (Sound M h) (inside (node M i))
-  put_sounds s = subst (All (Sound M h)) (sym put_inside) (sounds_same N M (put_length d N M h i es p) h es (put_agrees d N M h i es p free) s)
+  pub put_sounds : AllByRecursion (Sound N h) es → AllByRecursion (Sound M h) (inside (node M i))
+  put_sounds s = subst (AllByRecursion (Sound M h)) (sym put_inside) (sounds_same N M (put_length d N M h i es p) h es (put_agrees d N M h i es p free) s)
 
 -- ---- at a leaf
 leaf_times : (N : List Node) (es : List NodeEntry) (k : ℕ) → total (λ e. times N 0 e k) es ≡ 0
@@ -126,7 +126,7 @@ unfolding clips_in
 leaf_clips N es = total_one es
 
 module _ (d : ℕ) (N M : List Node) (i number : ℕ) (W : List ℕ) (n : ℕ) (F : List ℕ) (t : ℕ) (inN : i < length N) (few : (node N i).len ≤ 8)
-    (s : All (Sound N 0) (inside (node N i))) (p : Written d N M 0 i (kept number (inside (node N i)))) where
+    (s : AllByRecursion (Sound N 0) (inside (node N i))) (p : Written d N M 0 i (kept number (inside (node N i)))) where
   abbrev stay : List NodeEntry
   stay = kept number (inside (node N i))
 

@@ -1,6 +1,6 @@
 -- The steps of a withdrawal at a height that is more than 0, as the code has it: what each asks, and what it leaves.
 use Rattle.std.proofs.Common.{◌≡◌, ℕ, zero, suc, ◌+◌, ◌-◌, ◌*◌, ◌<◌, ◌≤◌, Bool, true, false, cond, ◌||◌, List, [], ◌∷◌, ◌++◌, map, length, get_or, take, drop, set, sym, refl, ap, ◌∙◌, subst, ap₂, arith}
-use Rattle.std.specs.List.{AllByRecursion as All}
+use Rattle.std.specs.List.{AllByRecursion}
 use Rattle.std.proofs.lemmas.Bool.{false≢true}
 use Rattle.space.specs.Row.{Row}
 use Rattle.rules.specs.Tree.{Box, Entry, rows_below}
@@ -100,12 +100,12 @@ module _ (d : ℕ) (N : List Node) (i number p : ℕ) where
     ask_len (suc g) w tk = child_in_m d N g i number p w.apart w.sound w.within M W V n m F G t u (low g tk)
 
     pub ask_keep : (h : ℕ) → Known h → WithdrawnBelow d N M (h - 1) below number W V n m F G t u → 3 ≤ (node M below).len
-        → (i < length M) × ((node M i).len ≤ 8) × All (Sound M h) (inside (node M i))
+        → (i < length M) × ((node M i).len ≤ 8) × AllByRecursion (Sound M h) (inside (node M i))
     ask_keep zero w tk l = absurd (w.up refl)
     ask_keep (suc g) w tk l = (
       in_m d N g i number p w.apart w.sound w.within M W V n m F G t u (low g tk),
       few_m d N g i number p w.apart w.sound w.within M W V n m F G t u (low g tk),
-      subst (All (Sound M (suc g))) (sym (own_inside d N g i number p w.apart w.sound w.within M W V n m F G t u (low g tk))) (keep_sound d N g i number p w.apart w.sound w.within M W V n m F G t u (low g tk) l),
+      subst (AllByRecursion (Sound M (suc g))) (sym (own_inside d N g i number p w.apart w.sound w.within M W V n m F G t u (low g tk))) (keep_sound d N g i number p w.apart w.sound w.within M W V n m F G t u (low g tk) l),
     )
 
     pub done_keep : (h : ℕ) → Known h → WithdrawnBelow d N M (h - 1) below number W V n m F G t u → 3 ≤ (node M below).len → (L : List Node) → Written d M L h i (inside (node M i)) → WithdrawnBelow d N L h i number W V n m F G t u
@@ -123,14 +123,14 @@ module _ (d : ℕ) (N : List Node) (i number p : ℕ) where
         (child_within d N g i number p w.apart w.sound w.within M W V n m F G t u (low g tk), r.0, r.1, r.2)
 
     pub ask_out : (h : ℕ) → Known h → WithdrawnBelow d N M (h - 1) below number W V n m F G t u
-        → (i < length M) × ((node M i).len ≤ 8) × (p < length (inside (node M i))) × All (Sound M h) (but p (inside (node M i)))
+        → (i < length M) × ((node M i).len ≤ 8) × (p < length (inside (node M i))) × AllByRecursion (Sound M h) (but p (inside (node M i)))
     ask_out zero w tk = absurd (w.up refl)
     ask_out (suc g) w tk =
         let o = own_inside d N g i number p w.apart w.sound w.within M W V n m F G t u (low g tk) in (
           in_m d N g i number p w.apart w.sound w.within M W V n m F G t u (low g tk),
           few_m d N g i number p w.apart w.sound w.within M W V n m F G t u (low g tk),
           subst (λ es. p < length es) (sym o) w.within,
-          subst (λ es. All (Sound M (suc g)) (but p es)) (sym o) (out_sound d N g i number p w.apart w.sound w.within M W V n m F G t u (low g tk)),
+          subst (λ es. AllByRecursion (Sound M (suc g)) (but p es)) (sym o) (out_sound d N g i number p w.apart w.sound w.within M W V n m F G t u (low g tk)),
         )
 
     pub done_out : (h : ℕ) → Known h → WithdrawnBelow d N M (h - 1) below number W V n m F G t u → (node M below).len < 3 → (L : List Node) (X : List ℕ) (a : ℕ) (H : List ℕ) (b : ℕ)
@@ -140,7 +140,7 @@ module _ (d : ℕ) (N : List Node) (i number p : ℕ) where
         taken_out d N g i number p w.apart w.sound w.within M W V n m F G t u (low g tk) L (holder_is g w.first) l X a H b sp
         (subst (λ es. Written d M L (suc g) i (but p es)) (own_inside d N g i number p w.apart w.sound w.within M W V n m F G t u (low g tk)) q)
 
-pub ask_strip : (N : List Node) (h i : ℕ) → h ≡ 0 → Sound N (suc h) (spot i) → (i < length N) × ((node N i).len ≤ 8) × All (Sound N 0) (inside (node N i))
+pub ask_strip : (N : List Node) (h i : ℕ) → h ≡ 0 → Sound N (suc h) (spot i) → (i < length N) × ((node N i).len ≤ 8) × AllByRecursion (Sound N 0) (inside (node N i))
 ask_strip N zero i e s = let p = sound_parts N 0 i s in (p.0, p.2, p.3)
 ask_strip N (suc h) i e s = absurd (omega arith)
 

@@ -1,6 +1,6 @@
 -- A number taken out of a tree at its root.
 use Rattle.std.proofs.Common.{◌≡◌, ℕ, zero, suc, ◌+◌, ◌-◌, ◌*◌, ◌<◌, ◌≤◌, List, [], ◌∷◌, ◌++◌, map, length, get_or, take, drop, set, sym, refl, ap, ◌∙◌, subst, ap₂, arith, length-set}
-use Rattle.std.specs.List.{AllByRecursion as All}
+use Rattle.std.specs.List.{AllByRecursion}
 use Rattle.std.proofs.lemmas.List.{length-map}
 use Rattle.std.proofs.ByRecursion.{All-get_or}
 use Rattle.space.specs.Row.{Row}
@@ -30,7 +30,7 @@ only [] d e = absurd (omega arith)
 only (x ∷ []) d e = refl
 only (x ∷ y ∷ xs) d e = absurd (omega arith)
 
-sound_at : (N : List Node) (h i : ℕ) → i < length N → least h ≤ (node N i).len → (node N i).len ≤ 8 → All (Sound N h) (inside (node N i)) → Sound N (suc h) (spot i)
+sound_at : (N : List Node) (h i : ℕ) → i < length N → least h ≤ (node N i).len → (node N i).len ≤ 8 → AllByRecursion (Sound N h) (inside (node N i)) → Sound N (suc h) (spot i)
 unfolding Sound
 sound_at N h i a b c s = (a, b, c, s)
 

@@ -1,6 +1,6 @@
 -- A number taken out below a node above the leaves: one of its entries has changed, or is taken out.
 use Rattle.std.proofs.Common.{◌≡◌, ℕ, zero, suc, ◌+◌, ◌-◌, ◌*◌, ◌<◌, ◌≤◌, Bool, true, false, cond, ◌||◌, ltb, List, [], ◌∷◌, ◌++◌, map, length, get_or, take, drop, set, sym, refl, ap, ◌∙◌, subst, ap₂, arith, length-set}
-use Rattle.std.specs.List.{flat_map, AllByRecursion as All}
+use Rattle.std.specs.List.{flat_map, AllByRecursion}
 use Rattle.std.proofs.lemmas.List.{length-map, length-append, length-take, length-drop, map-append, append_assoc, get_or-map, take-map, drop-map}
 use Rattle.std.proofs.ByRecursion.{All-append, All-get_or, All-take, All-drop}
 use Rattle.std.proofs.lemmas.Bool.{lt-ltb, le-ltb}
@@ -40,7 +40,7 @@ length_but es p = omega (arith, length-append (take p es) (drop (suc p) es), len
 pub but_length : {E : Type 0} (es : List E) (p : ℕ) → p < length es → length es ≤ suc (length (but p es))
 but_length es p l = omega (arith, length-append (take p es) (drop (suc p) es), length-take p es, length-drop (suc p) es)
 
-pub all_but : {E : Type 0} (P : E → Type 0) (es : List E) (p : ℕ) → All P es → All P (but p es)
+pub all_but : {E : Type 0} (P : E → Type 0) (es : List E) (p : ℕ) → AllByRecursion P es → AllByRecursion P (but p es)
 all_but P es p a = All-append P (take p es) (drop (suc p) es) (All-take P p es a) (All-drop P (suc p) es a)
 
 map_but : {E F : Type 0} (f : E → F) (es : List E) (p : ℕ) → map f (but p es) ≡ but p (map f es)
@@ -99,7 +99,7 @@ module _ (d : ℕ) (N : List Node) (g i number p : ℕ) (apart : (k : ℕ) → t
   pub child_count : count_in N (suc g) (spot (place_in child)) ≤ count_in N (suc (suc g)) (spot i)
   child_count = omega (arith, count_at N (suc g) i, total_at (count_in N (suc g)) es p no_entry within, count_spot N)
 
-  parts : (i < length N) × ((node N i).len ≤ 8) × All (Sound N (suc g)) es
+  parts : (i < length N) × ((node N i).len ≤ 8) × AllByRecursion (Sound N (suc g)) es
   unfolding Sound
   parts = (s.0, s.2, s.3)
 
@@ -167,10 +167,10 @@ module _ (d : ℕ) (N : List Node) (g i number p : ℕ) (apart : (k : ℕ) → t
     unfolding Sound
     child_sound_m three = (child_in_m, least_some g (node M (place_in child)).len (omega arith), tk.few, tk.sound)
 
-    pub keep_sound : 3 ≤ (node M (place_in child)).len → All (Sound M (suc g)) es
+    pub keep_sound : 3 ≤ (node M (place_in child)).len → AllByRecursion (Sound M (suc g)) es
     keep_sound three = sound_changed N M (suc g) tk.long child es p within refl once rest (child_sound_m three) parts.2
 
-    pub out_sound : All (Sound M (suc g)) (but p es)
+    pub out_sound : AllByRecursion (Sound M (suc g)) (but p es)
     out_sound = sounds_same N M tk.long (suc g) (but p es) others (all_but (Sound N (suc g)) es p parts.2)
 
     free_out : total (λ e. times M (suc g) e i) (but p es) ≡ 0

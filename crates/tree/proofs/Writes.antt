@@ -1,6 +1,6 @@
 -- What a node holds after it is made of some entries.
 use Rattle.std.proofs.Common.{◌≡◌, ℕ, zero, suc, ◌+◌, ◌-◌, ◌<◌, ◌≤◌, Bool, true, false, cond, List, [], ◌∷◌, ◌++◌, map, length, get_or, take, drop, set, sym, refl, ap, ◌∙◌, subst, ap₂, arith, length-set}
-use Rattle.std.specs.List.{AllByRecursion as All}
+use Rattle.std.specs.List.{AllByRecursion}
 use Rattle.std.proofs.lemmas.List.{get_or-set_same, get_or-set_other}
 use Rattle.space.specs.Boxes.{around}
 use Rattle.space.specs.Row.{Row}
@@ -46,7 +46,7 @@ module _ (d : ℕ) (N M : List Node) (h i : ℕ) (es : List NodeEntry) (p : Writ
       let w : inside (node M i) ≡ es = ap inside (put_at l) ∙ p.holds in
       rw w (omega arith)
 
-  pub put_sound : i < length N → least h ≤ length es → length es ≤ 8 → total (λ e. times N h e i) es ≡ 0 → All (Sound N h) es → Sound M (suc h) (spot i)
+  pub put_sound : i < length N → least h ≤ length es → length es ≤ 8 → total (λ e. times N h e i) es ≡ 0 → AllByRecursion (Sound N h) es → Sound M (suc h) (spot i)
   unfolding Sound
   put_sound l some few apart s =
       let n : (node M i).len ≡ length es = ap (λ n. n.len) (put_at l) ∙ p.long in

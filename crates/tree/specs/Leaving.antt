@@ -1,6 +1,6 @@
 -- What a withdrawal does to a table of nodes, a worklist of words and a stack of free places.
 use Rattle.std.specs.Prelude.{◌≡◌, ℕ, zero, suc, ◌+◌, ◌*◌, ◌/◌, ◌%◌, ◌^◌, ◌<◌, ◌≤◌, Bool, true, false, cond, List, [], ◌∷◌, ◌++◌, map, length, take, drop, set, ◌==◌, ◌≢◌, nat_lt, slice_index}
-use Rattle.std.specs.List.{flat_map, AllByRecursion as All}
+use Rattle.std.specs.List.{flat_map, AllByRecursion}
 use Rattle.space.specs.Row.{Row}
 use Rattle.rules.specs.Tree.{Box, Entry, Tree, boxed, rows_below}
 use Rattle.rules.specs.Rows.{lists, rising}
@@ -52,7 +52,7 @@ count_in N (suc h) e = 1 + total (count_in N h) (inside (node N (place_in e)))
 -- `Sound`, but for how many entries a node has at least
 unfoldable pub Within : List Node → ℕ → NodeEntry → Type 0
 Within N zero e = Lettered (clip_in e)
-Within N (suc h) e = (place_in e < length N) × ((node N (place_in e)).len ≤ 8) × All (Within N h) (inside (node N (place_in e)))
+Within N (suc h) e = (place_in e < length N) × ((node N (place_in e)).len ≤ 8) × AllByRecursion (Within N h) (inside (node N (place_in e)))
 
 -- The stack of free places grows down: they are those from the place t on. How often k is among them.
 abbrev pub stock : List ℕ → ℕ → ℕ → ℕ
@@ -106,7 +106,7 @@ pub record WithdrawnBelow (d : ℕ) (N M : List Node) (h i number : ℕ) (W V : 
   pub least : (h ≢ 0) → length (inside (node N i)) ≤ suc (node M i).len
   pub few : (node M i).len ≤ 8
   pub full : length (inside (node M i)) ≡ (node M i).len
-  pub sound : All (Sound M h) (inside (node M i))
+  pub sound : AllByRecursion (Sound M h) (inside (node M i))
 
 -- The same at a root i of height h, which gives way where it is left with one entry: the root after is j, of height g.
 pub record WithdrawnRoot (d : ℕ) (N M : List Node) (h i number : ℕ) (W V : List ℕ) (n m : ℕ) (F G : List ℕ) (t u g j : ℕ) : Type 0 where

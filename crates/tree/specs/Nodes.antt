@@ -1,7 +1,7 @@
 -- What a table of nodes stands for.
 use Rattle.std.specs.Prelude.{◌≡◌, ℕ, zero, suc, ◌+◌, ◌<◌, ◌≤◌, Bool, true, false, cond, List, [], ◌∷◌, ◌++◌, map, length, take, replicate, Some, None, Option, ◌==◌, ◌≢◌, slice_index, slice_index_or, slice_set}
 use Rattle.space.specs.Boxes.{around, point}
-use Rattle.std.specs.List.{AllByRecursion as All}
+use Rattle.std.specs.List.{AllByRecursion}
 use Rattle.rules.specs.Choice.{chosen}
 use Rattle.rules.specs.Division.{division}
 use Rattle.space.specs.Row.{Row}
@@ -73,7 +73,7 @@ Lettered c = (k : ℕ) → slice_index c.letters k < 64
 -- every letter is below 64, every place in the table, and every node has up to eight entries, above the leaves at least one
 unfoldable pub Sound : List Node → ℕ → NodeEntry → Type 0
 Sound N zero e = Lettered (clip_in e)
-Sound N (suc h) e = (place_in e < length N) × (least h ≤ (node N (place_in e)).len) × ((node N (place_in e)).len ≤ 8) × All (Sound N h) (inside (node N (place_in e)))
+Sound N (suc h) e = (place_in e < length N) × (least h ≤ (node N (place_in e)).len) × ((node N (place_in e)).len ≤ 8) × AllByRecursion (Sound N h) (inside (node N (place_in e)))
 
 -- the division, under a name that `omega` does not unfold
 unfoldable pub divided : ℕ → List (List ℕ) → ℕ

@@ -7,7 +7,7 @@ use Rattle.rules.specs.Build.{Build}
 use Rattle.rules.specs.Enter.{entered_all}
 use Rattle.rules.specs.Withdraw.{withdrawn}
 use Rattle.rules.specs.Finds.{Once}
-use Rattle.std.specs.List.{AllByRecursion as All}
+use Rattle.std.specs.List.{AllByRecursion}
 use Rattle.tree.specs.declared.node.Node.{Node}
 use Rattle.tree.specs.Nodes.{spot, Sound, tree_of}
 use Rattle.tree.specs.Leaving.{keyed, EachOnce}
@@ -48,9 +48,9 @@ pub record Withdrew (d : ℕ) (N M : List Node) (F G : List ℕ) (t h i number u
 -- and none above the highest.
 pub record Whole (plan : List ℕ) (capacity clips highest : ℕ) (N : List Node) (F : List ℕ) (t h i : ℕ) : Type 0 where
   pub fit : is_some (plan_fault plan) ≡ false
-  pub sizes : All (λ s. s ≤ 64) plan
+  pub sizes : AllByRecursion (λ s. s ≤ 64) plan
   pub stands : Stands (length plan) capacity N F t h i
   pub once : Once (rows_in (tree_of (length plan) N h i))
   pub count : clips ≡ rows_of (length plan) N h i
-  pub below : All (λ r. r.number ≤ highest) (rows_in (tree_of (length plan) N h i))
-  pub proper : All (λ r. is_some (vector_fault plan r.letters) ≡ false) (rows_in (tree_of (length plan) N h i))
+  pub below : AllByRecursion (λ r. r.number ≤ highest) (rows_in (tree_of (length plan) N h i))
+  pub proper : AllByRecursion (λ r. is_some (vector_fault plan r.letters) ≡ false) (rows_in (tree_of (length plan) N h i))

@@ -1,7 +1,7 @@
 // Which entry of an inner box a new clip goes to.
 ghost use Rattle.std.specs.Prelude.{◌≡◌, ℕ, ◌<◌, ◌≤◌, map, length, take};
 ghost use Rattle.rules.specs.Choice.{commons, growth, chosen};
-ghost use Rattle.std.specs.List.{AllByRecursion as All};
+ghost use Rattle.std.specs.List.{AllByRecursion};
 
 use crate::division::is_less;
 use crate::fixed::{Sets, area_of, common_of, point_of, union_of};
@@ -10,7 +10,7 @@ use crate::fixed::{Sets, area_of, common_of, point_of, union_of};
 pub(crate) fn common_sum(b: Sets, boxes: &[Sets], dims: usize) -> u64
     requires axes { dims ≤ 10 }
     requires few { length boxes.now ≤ 8 }
-    requires long { All (λ b. length b ≡ 10) boxes.now }
+    requires long { AllByRecursion (λ b. length b ≡ 10) boxes.now }
     ensures { result ≡ commons (take dims b) (map (take dims) boxes.now) }
 {
     let mut sum = 0;
@@ -30,7 +30,7 @@ pub(crate) fn growth_of(
 ) -> (u64, u64, usize)
     requires axes { dims ≤ 10 }
     requires few { length boxes.now ≤ 8 }
-    requires long { All (λ b. length b ≡ 10) boxes.now }
+    requires long { AllByRecursion (λ b. length b ≡ 10) boxes.now }
     requires within { i < length boxes.now }
     ensures { result ≡ growth (map (take dims) boxes.now) (take dims letters) i }
 {
@@ -52,7 +52,7 @@ pub(crate) fn choose(boxes: &[Sets], dims: usize, letters: [u8; 10]) -> usize
     requires axes { dims ≤ 10 }
     requires some { 0 < length boxes.now }
     requires few { length boxes.now ≤ 8 }
-    requires long { All (λ b. length b ≡ 10) boxes.now }
+    requires long { AllByRecursion (λ b. length b ≡ 10) boxes.now }
     ensures place { result ≡ chosen (map (take dims) boxes.now) (take dims letters) }
     ensures within { result < length boxes.now }
 {

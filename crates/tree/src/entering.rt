@@ -1,6 +1,6 @@
 // How a clip enters the tree.
 ghost use Rattle.std.specs.Prelude.{◌≡◌, ℕ, suc, ◌+◌, ◌<◌, ◌≤◌, length, slice_index, slice_index_or};
-ghost use Rattle.std.specs.List.{AllByRecursion as All};
+ghost use Rattle.std.specs.List.{AllByRecursion};
 ghost use Rattle.tree.specs.Leaving.{EachOnce, EnteredClip};
 ghost use Rattle.tree.specs.Nodes.{Sound, Lettered, EnteredBelow, EnteredRoot, times, held, inside, node, no_entry, spot, place_in, place_of};
 
@@ -22,7 +22,7 @@ pub(crate) fn choose_child(
     requires within { at < length nodes.now }
     requires some { 0 < (node nodes.now at).len }
     requires few { (node nodes.now at).len ≤ 8 }
-    requires sound { All (Sound nodes.now height) (inside (node nodes.now at)) }
+    requires sound { AllByRecursion (Sound nodes.now height) (inside (node nodes.now at)) }
     ensures place { place_of dims nodes.now height at clip < length (inside (node nodes.now at)) }
     ensures child { result ≡ place_in (slice_index_or (inside (node nodes.now at)) (place_of dims nodes.now height at clip) no_entry) }
 {

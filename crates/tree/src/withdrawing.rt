@@ -1,6 +1,6 @@
 // How a clip leaves the tree.
 ghost use Rattle.std.specs.Prelude.{◌≡◌, ℕ, suc, ◌+◌, ◌*◌, ◌<◌, ◌≤◌, true, not, ◌++◌, length, take, drop, ◌==◌, ◌≢◌};
-ghost use Rattle.std.specs.List.{AllByRecursion as All};
+ghost use Rattle.std.specs.List.{AllByRecursion};
 ghost use Rattle.tree.specs.Leaving.{clips_in, count_in, Within, SetAside, listed_in, kept, WithdrawnBelow, WithdrawnRoot};
 ghost use Rattle.tree.specs.Nodes.{Sound, Written, times, inside, node, spot, clip_in};
 
@@ -72,7 +72,7 @@ pub(crate) fn other_clips(entries: &[NodeEntry], number: u32) -> ([NodeEntry; 8]
 pub(crate) fn remove_clip(nodes: &mut [Node], dims: usize, at: usize, number: u32)
     requires axes { dims ≤ 10 }
     requires few { (node nodes.old at).len ≤ 8 }
-    requires sound { All (Sound nodes.old 0) (inside (node nodes.old at)) }
+    requires sound { AllByRecursion (Sound nodes.old 0) (inside (node nodes.old at)) }
     requires within { at < length nodes.old }
     ensures { Written dims nodes.old nodes.new 0 at (kept number (inside (node nodes.old at))) }
 {
@@ -86,7 +86,7 @@ pub(crate) fn remove_entry(nodes: &mut [Node], dims: usize, height: usize, at: u
     requires axes { dims ≤ 10 }
     requires few { (node nodes.old at).len ≤ 8 }
     requires place { p < length (inside (node nodes.old at)) }
-    requires sound { All (Sound nodes.old height) (take p (inside (node nodes.old at)) ++ drop (suc p) (inside (node nodes.old at))) }
+    requires sound { AllByRecursion (Sound nodes.old height) (take p (inside (node nodes.old at)) ++ drop (suc p) (inside (node nodes.old at))) }
     requires within { at < length nodes.old }
     ensures { Written dims nodes.old nodes.new height at (take p (inside (node nodes.old at)) ++ drop (suc p) (inside (node nodes.old at))) }
 {

@@ -1,7 +1,7 @@
 // Boxes of the table made of their entries.
 ghost use Rattle.std.specs.Prelude.{◌≡◌, ℕ, ◌+◌, ◌<◌, ◌≤◌, [], ◌∷◌, ◌++◌, map, length, take};
 ghost use Rattle.rules.specs.Tree.{sets_of};
-ghost use Rattle.std.specs.List.{AllByRecursion as All};
+ghost use Rattle.std.specs.List.{AllByRecursion};
 ghost use Rattle.tree.specs.Nodes.{Sound, entry_of, boxes_of, Written, Fitted, one, total, times, inside, node};
 
 use crate::division::{best_division, group_of};
@@ -30,8 +30,8 @@ pub(crate) fn boxes_of(
     entries: &[NodeEntry],
 ) -> [Sets; 9]
     requires few { length entries.now ≤ 9 }
-    requires sound { All (Sound nodes.now height) entries.now }
-    ensures long { All (λ b. length b ≡ 10) result }
+    requires sound { AllByRecursion (Sound nodes.now height) entries.now }
+    ensures long { AllByRecursion (λ b. length b ≡ 10) result }
     ensures boxes { map (take dims) (take (length entries.now) result) ≡ boxes_of dims nodes.now height entries.now }
 {
     let mut r = [[0; 10]; 9];
@@ -64,7 +64,7 @@ pub(crate) fn write_node(
 )
     requires axes { dims ≤ 10 }
     requires few { length entries.now ≤ 8 }
-    requires sound { All (Sound nodes.old height) entries.now }
+    requires sound { AllByRecursion (Sound nodes.old height) entries.now }
     requires within { at < length nodes.old }
     ensures { Written dims nodes.old nodes.new height at entries.now }
 {
@@ -87,7 +87,7 @@ pub(crate) fn fit_entries(
     requires axes { dims ≤ 10 }
     requires some { 0 < length entries.now }
     requires few { length entries.now ≤ 9 }
-    requires sound { All (Sound nodes.old height) entries.now }
+    requires sound { AllByRecursion (Sound nodes.old height) entries.now }
     requires within { at < length nodes.old }
     requires room { spare < length nodes.old }
     requires apart { (k : ℕ) → one at k + one spare k + total (λ e. times nodes.old height e k) entries.now ≤ 1 }
@@ -130,7 +130,7 @@ pub(crate) fn add_entry(
 ) -> bool
     requires axes { dims ≤ 10 }
     requires few { (node nodes.old at).len ≤ 8 }
-    requires sound { All (Sound nodes.old height) (inside (node nodes.old at) ++ entry ∷ []) }
+    requires sound { AllByRecursion (Sound nodes.old height) (inside (node nodes.old at) ++ entry ∷ []) }
     requires within { at < length nodes.old }
     requires room { spare < length nodes.old }
     requires apart { (k : ℕ) → one at k + one spare k + total (λ e. times nodes.old height e k) (inside (node nodes.old at) ++ entry ∷ []) ≤ 1 }
@@ -145,7 +145,7 @@ pub(crate) fn add_entry(
 pub(crate) fn rebox(nodes: &mut [Node], dims: usize, height: usize, at: usize)
     requires axes { dims ≤ 10 }
     requires few { (node nodes.old at).len ≤ 8 }
-    requires sound { All (Sound nodes.old height) (inside (node nodes.old at)) }
+    requires sound { AllByRecursion (Sound nodes.old height) (inside (node nodes.old at)) }
     requires within { at < length nodes.old }
     ensures { Written dims nodes.old nodes.new height at (inside (node nodes.old at)) }
 {

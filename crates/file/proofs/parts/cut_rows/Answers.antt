@@ -18,6 +18,6 @@ returns c =
       announces = e;
       front = s.front ∙ ap (take (4 * n)) q;
       back = s.back ∙ letters_behind c.args.d n rest _ h q e;
-      four = s.front-len;
+      four = s.front_len;
       many = omega arith;
     }

@@ -1,5 +1,5 @@
 use Rattle.std.proofs.Common.{◌≡◌, ℕ, suc, ◌+◌, ◌-◌, ◌<◌, ◌≤◌, List, [], ◌∷◌, length, get_or, take, sym, refl, ap, ◌∙◌, subst, subst₂, add-one, arith, rules}
-use Rattle.std.specs.List.{AllByRecursion as All}
+use Rattle.std.specs.List.{AllByRecursion}
 use Rattle.tree.specs.Nodes.{Sound, Written, EnteredRoot, spot, times, held, one}
 use Rattle.tree.proofs.Siblings.{held_more}
 use Rattle.tree.proofs.EntersRoot.{rose_one, rose_two, pair_sound}
@@ -24,7 +24,7 @@ write-node-requires c =
     let all : c.enter-below-used.result ≡ suc c.args.height = omega (arith, c.enter-below-used.ensures.used, c.if-used-height.false) in
     let m = add-one c.args.height in
     let q = pair_sound c.args.dims c.args.nodes.now c.enter-below-used.new.nodes c.args.spare.now c.args.height c.args.root c.args.clip c.enter-below-used.result c.enter-below-used.ensures all c.requires.room (c.requires.spares (suc c.args.height) c.requires.room) c.requires.apart in
-    let P : ℕ → Type 0 = λ n. All (Sound c.enter-below-used.new.nodes n) (spot c.args.root ∷ spot (get_or c.args.spare.now c.args.height 0) ∷ []) in
+    let P : ℕ → Type 0 = λ n. AllByRecursion (Sound c.enter-below-used.new.nodes n) (spot c.args.root ∷ spot (get_or c.args.spare.now c.args.height 0) ∷ []) in
     record {
       axes = c.requires.axes;
       few = omega arith;

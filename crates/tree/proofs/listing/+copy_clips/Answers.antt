@@ -1,5 +1,5 @@
 use Rattle.std.proofs.Common.{◌-◌, ◌≤◌, take, sym, subst, arith, rules}
-use Rattle.std.specs.List.{AllByRecursion as All}
+use Rattle.std.specs.List.{AllByRecursion}
 use Rattle.std.proofs.ByRecursion.{All-get_or}
 use Rattle.tree.specs.Nodes.{node, no_entry}
 use Rattle.tree.specs.Leaving.{Within}
@@ -45,7 +45,7 @@ copy-clips-many-requires t c =
     let S = Within c.args.nodes.now (c.args.height - 1) in
     let r = copying_room c.args.nodes.now c.args.height c.place-in-at.result c.args.e es c.args.out.now c.loop-k.out c.args.n c.loop-k.many c.loop-k.k
     c.if-height-eq0.false c.place-in-at.ensures (cut n.len n.entries) c.loop-k.invariant c.loop-k-test.true c.requires.room in
-    (omega (arith, c.decreases, c.if-height-eq0.false), (All-get_or S es c.loop-k.k no_entry c.loop-k-test.true (subst (All S) (sym (cut n.len n.entries)) p.2), r))
+    (omega (arith, c.decreases, c.if-height-eq0.false), (All-get_or S es c.loop-k.k no_entry c.loop-k-test.true (subst (AllByRecursion S) (sym (cut n.len n.entries)) p.2), r))
 
 pub loop-k-preserved : goal.loop-k-preserved
 loop-k-preserved t c =

@@ -1,5 +1,5 @@
 use Rattle.std.proofs.Common.{◌≡◌, ℕ, ◌-◌, ◌<◌, ◌≤◌, Bool, true, false, eqb, List, length, get_or, take, sym, refl, ap, ◌∙◌, subst, arith, rules}
-use Rattle.std.specs.List.{AllByRecursion as All}
+use Rattle.std.specs.List.{AllByRecursion}
 use Rattle.std.proofs.lemmas.List.{take_all}
 use Rattle.std.proofs.ByRecursion.{All-get_or, All-more}
 use Rattle.space.specs.declared.clip.StoredClip.{StoredClip}
@@ -35,7 +35,7 @@ is-listed-requires t c =
     let n = node c.args.nodes.now c.place-in.result in
     let p = sound_up c.args.nodes.now c.args.height c.args.e c.if-height-eq0.false c.requires c.place-in.result c.place-in.ensures in
     let S = Sound c.args.nodes.now (c.args.height - 1) in
-    (omega (arith, c.decreases, c.if-height-eq0.false), All-get_or S (take (n.len - 0) n.entries) c.loop-k.k no_entry c.loop-k-test.true (subst (All S) (sym (cut n.len n.entries)) p.2))
+    (omega (arith, c.decreases, c.if-height-eq0.false), All-get_or S (take (n.len - 0) n.entries) c.loop-k.k no_entry c.loop-k-test.true (subst (AllByRecursion S) (sym (cut n.len n.entries)) p.2))
 
 pub returns-then-is-listed : goal.returns-then-is-listed
 returns-then-is-listed t c =
@@ -52,4 +52,4 @@ pub returns : goal.returns
 returns t c =
     let n = node c.args.nodes.now c.place-in.result in
     λ d. sym (listed_not c.args.nodes.now c.args.number c.args.height c.args.e c.place-in.result c.if-height-eq0.false c.place-in.ensures (take (n.len - 0) n.entries) (cut n.len n.entries) d
-    (subst (All (λ e. listed_in d c.args.nodes.now (c.args.height - 1) c.args.number e ≡ false)) (take_all c.loop-k.k (take (n.len - 0) n.entries) c.loop-k-test.false) (c.loop-k.invariant d)))
+    (subst (AllByRecursion (λ e. listed_in d c.args.nodes.now (c.args.height - 1) c.args.number e ≡ false)) (take_all c.loop-k.k (take (n.len - 0) n.entries) c.loop-k-test.false) (c.loop-k.invariant d)))

@@ -1,5 +1,5 @@
 use Rattle.std.proofs.Common.{◌≡◌, ℕ, ◌-◌, Bool, false, take}
-use Rattle.std.specs.List.{AllByRecursion as All}
+use Rattle.std.specs.List.{AllByRecursion}
 use Rattle.tree.specs.Leaving.{listed_in}
 use Rattle.tree.proofs.lookup.+is_listed.Given as goal
 
@@ -7,4 +7,4 @@ abbrev pub decreases-is-listed : goal.decreases-is-listed
 decreases-is-listed l = l.height
 
 abbrev pub invariant-loop-k : goal.invariant-loop-k
-invariant-loop-k l = (d : ℕ) → All (λ e. listed_in d l.nodes (l.height - 1) l.number e ≡ false) (take l.k l.es)
+invariant-loop-k l = (d : ℕ) → AllByRecursion (λ e. listed_in d l.nodes (l.height - 1) l.number e ≡ false) (take l.k l.es)

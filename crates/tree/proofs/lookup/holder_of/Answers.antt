@@ -1,5 +1,5 @@
 use Rattle.std.proofs.Common.{◌≡◌, ℕ, ◌-◌, ◌<◌, ◌≤◌, List, length, get_or, take, sym, refl, ap, ◌∙◌, subst, arith, rules}
-use Rattle.std.specs.List.{AllByRecursion as All}
+use Rattle.std.specs.List.{AllByRecursion}
 use Rattle.std.proofs.ByRecursion.{All-get_or}
 use Rattle.tree.specs.Nodes.{node, inside, Sound, no_entry}
 use Rattle.tree.specs.Leaving.{listed_in, first_of}
@@ -11,7 +11,7 @@ pub is-listed-requires : goal.is-listed-requires
 is-listed-requires c =
     let n = node c.args.nodes.now c.args.at in
     let S = Sound c.args.nodes.now c.args.height in
-    All-get_or S (take (n.len - 0) n.entries) c.loop-k.k no_entry c.loop-k-test.true (subst (All S) (sym (cut n.len n.entries)) c.requires.sound)
+    All-get_or S (take (n.len - 0) n.entries) c.loop-k.k no_entry c.loop-k-test.true (subst (AllByRecursion S) (sym (cut n.len n.entries)) c.requires.sound)
 
 pub returns-then-is-listed : goal.returns-then-is-listed
 returns-then-is-listed c =

@@ -1,5 +1,5 @@
 use Rattle.std.proofs.Common.{◌≡◌, ℕ, ◌+◌, ◌-◌, ◌*◌, ◌<◌, ◌≤◌, List, length, get_or, take, set, sym, refl, ap, ◌∙◌, subst, arith, rules}
-use Rattle.std.specs.List.{AllByRecursion as All}
+use Rattle.std.specs.List.{AllByRecursion}
 use Rattle.std.proofs.ByRecursion.{All-get_or}
 use Rattle.tree.specs.Nodes.{node, inside, no_entry, Lettered}
 use Rattle.tree.specs.Leaving.{Within, clips_in, count_in}
@@ -50,7 +50,7 @@ set-aside-a-requires t c =
     let S = Within c.args.nodes.now (c.args.height - 1) in
     let r = walk_room c.args.nodes.now c.args.height c.place-in-at.result c.args.e es c.args.words.now c.loop-k.words c.args.n c.loop-k.many c.args.free.now c.loop-k.free c.args.top c.loop-k.high c.loop-k.k
     c.if-height-eq0.false c.place-in-at.ensures (cut n.len n.entries) c.loop-k-test.true c.loop-k.invariant c.requires.words c.requires.room c.requires.stack in
-    (omega (arith, c.decreases, c.if-height-eq0.false), (All-get_or S es c.loop-k.k no_entry c.loop-k-test.true (subst (All S) (sym (cut n.len n.entries)) p.2), (r.0, (r.1, r.2))))
+    (omega (arith, c.decreases, c.if-height-eq0.false), (All-get_or S es c.loop-k.k no_entry c.loop-k-test.true (subst (AllByRecursion S) (sym (cut n.len n.entries)) p.2), (r.0, (r.1, r.2))))
 
 pub loop-k-preserved : goal.loop-k-preserved
 loop-k-preserved t c =

@@ -1,5 +1,5 @@
 use Rattle.std.proofs.Common.{◌≡◌, ℕ, suc, ◌+◌, ◌-◌, ◌*◌, ◌<◌, ◌≤◌, Bool, true, false, List, length, get_or, take, sym, refl, ap, ◌∙◌, subst, arith, rules}
-use Rattle.std.specs.List.{AllByRecursion as All}
+use Rattle.std.specs.List.{AllByRecursion}
 use Rattle.tree.specs.Nodes.{node, inside, spot, Sound, Written, times}
 use Rattle.tree.specs.Leaving.{listed_in, clips_in, count_in, Within, SetAside, WithdrawnBelow}
 use Rattle.tree.proofs.EntersAt.{sound_parts}

@@ -1,5 +1,5 @@
 use Rattle.std.proofs.Common.{◌≡◌, ℕ, ◌-◌, ◌≤◌, List, length, take, sym, refl, ap, ◌∙◌, subst, arith, rules}
-use Rattle.std.specs.List.{AllByRecursion as All}
+use Rattle.std.specs.List.{AllByRecursion}
 use Rattle.std.proofs.lemmas.List.{length-take}
 use Rattle.tree.specs.Nodes.{node, inside, Sound, Written}
 use Rattle.tree.specs.Leaving.{kept}
@@ -14,7 +14,7 @@ write-node-requires c =
     record {
       axes = c.requires.axes;
       few = omega (arith, ap length e, length_kept c.args.number (inside n), length-take n.len n.entries, c.requires.few);
-      sound = subst (All (Sound c.args.nodes.now 0)) (sym e) (all_kept (Sound c.args.nodes.now 0) c.args.number (inside n) c.requires.sound);
+      sound = subst (AllByRecursion (Sound c.args.nodes.now 0)) (sym e) (all_kept (Sound c.args.nodes.now 0) c.args.number (inside n) c.requires.sound);
       within = c.requires.within;
     }
 

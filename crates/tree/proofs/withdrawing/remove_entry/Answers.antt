@@ -1,6 +1,6 @@
 use Rattle.std.proofs.Common.{◌≡◌, ℕ, suc, ◌+◌, ◌-◌, ◌*◌, ◌%◌, ◌^◌, ◌<◌, ◌≤◌, false, List, ◌++◌, length, take, drop, sym, refl, ap, ◌∙◌, subst, ap₂, arith, lit<, rules}
 use native.Mathlib.Nat.{pow-le-pow_right}
-use Rattle.std.specs.List.{AllByRecursion as All}
+use Rattle.std.specs.List.{AllByRecursion}
 use Rattle.std.proofs.lemmas.List.{length-take, length-append, length-drop}
 use Rattle.rules.specs.Division.{group}
 use Rattle.tree.specs.declared.node.NodeEntry.{NodeEntry}
@@ -32,7 +32,7 @@ write-node-requires c =
     record {
       axes = c.requires.axes;
       few = omega (arith, ap length e, length-append (take p es) (drop (suc p) es), length-take p es, length-drop (suc p) es, length-take n.len n.entries, c.requires.few);
-      sound = subst (All (Sound c.args.nodes.now c.args.height)) (sym e) c.requires.sound;
+      sound = subst (AllByRecursion (Sound c.args.nodes.now c.args.height)) (sym e) c.requires.sound;
       within = c.requires.within;
     }
 

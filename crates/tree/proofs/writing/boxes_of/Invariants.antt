@@ -1,7 +1,7 @@
 use Rattle.std.proofs.Common.{◌≡◌, ℕ, ◌^◌, ◌<◌, map, length, get_or, take}
-use Rattle.std.specs.List.{AllByRecursion as All}
+use Rattle.std.specs.List.{AllByRecursion}
 use Rattle.tree.specs.Nodes.{boxes_of}
 use Rattle.tree.proofs.writing.boxes_of.Given as goal
 
 abbrev pub invariant-loop-i : goal.invariant-loop-i
-invariant-loop-i l = (length l.r ≡ 9) × All (λ b. length b ≡ 10) l.r × (map (take l.dims) (take l.i l.r) ≡ boxes_of l.dims l.nodes l.height (take l.i l.entries))
+invariant-loop-i l = (length l.r ≡ 9) × AllByRecursion (λ b. length b ≡ 10) l.r × (map (take l.dims) (take l.i l.r) ≡ boxes_of l.dims l.nodes l.height (take l.i l.entries))

@@ -1,5 +1,5 @@
 use Rattle.std.proofs.Common.{◌≡◌, ℕ, ◌+◌, ◌-◌, ◌<◌, ◌≤◌, Bool, true, false, cond, List, [], ◌++◌, map, length, get_or, take, drop, sym, refl, ap, ◌∙◌, subst, ap₂, arith, rules}
-use Rattle.std.specs.List.{AllByRecursion as All}
+use Rattle.std.specs.List.{AllByRecursion}
 use Rattle.std.proofs.lemmas.List.{take_all}
 use Rattle.rules.specs.Tree.{sets_of}
 use Rattle.rules.specs.Division.{group}
@@ -27,7 +27,7 @@ write-node-requires-2 c =
     record {
       axes = c.requires.axes;
       few = f.1;
-      sound = subst (All (Sound c.args.nodes.now c.args.height)) (sym e) (all_group (Sound c.args.nodes.now c.args.height) false c.best-division-code.result c.args.entries.now c.requires.sound);
+      sound = subst (AllByRecursion (Sound c.args.nodes.now c.args.height)) (sym e) (all_group (Sound c.args.nodes.now c.args.height) false c.best-division-code.result c.args.entries.now c.requires.sound);
       within = c.requires.within;
     }
 
@@ -44,7 +44,7 @@ write-node-requires-3 c =
     record {
       axes = c.requires.axes;
       few = f.1;
-      sound = subst (All (Sound c.write-node-2.new.nodes c.args.height)) (sym e) s.1;
+      sound = subst (AllByRecursion (Sound c.write-node-2.new.nodes c.args.height)) (sym e) s.1;
       within = omega (arith, s.0, c.requires.room);
     }
 
