@@ -2,7 +2,6 @@
 use Rattle.std.specs.Prelude.{◌≡◌, ℕ, Some, None, Ok, Err, Option, Result}
 use Rattle.rules.specs.Refusals.{Refusal, refused_at, layer_of, clip_refusal}
 use Rattle.file.specs.Faults.{file_refusal}
-use Rattle.file.specs.declared.fault.FileFault.{FileFault}
 use Rattle.file.specs.declared.fault.FileFault.TheVariants as file
 use Rattle.file.specs.declared.fault.RowFault.{RowFault}
 use Rattle.space.specs.declared.plan.ClipFault.{ClipFault}

@@ -1,7 +1,6 @@
 use Rattle.std.proofs.Common.{◌≡◌, refl}
 use Rattle.rules.specs.Refusals.{layer_of}
-use Rattle.space.specs.Plans.{plan_number, clip_number}
-use Rattle.space.specs.declared.plan.PlanFault.{PlanFault}
+use Rattle.space.specs.Plans.{clip_number}
 use Rattle.space.specs.declared.plan.PlanFault.TheVariants as plan
 use Rattle.space.specs.declared.plan.ClipFault.{ClipFault}
 use Rattle.space.specs.declared.plan.ClipFault.TheVariants as clip
