@@ -16,4 +16,4 @@ returns c =
     let z : c.args.n - 0 ≡ c.args.n = omega arith in
     let U = c.loop-i.words in
     in_order c.args.words.now U _ c.args.n (subst (Keys c.args.words.now U) e c.loop-i.invariant) c.requires.room c.requires.few
-    (ap₂ (λ x y. x ++ y) (c.sort-words.ensures ∙ ap (λ m. ranked ltb (take m U)) z) (ap (λ m. drop m U) z))
+    (ap₂ (λ x y. x ++ y) (c.sort_words.ensures ∙ ap (λ m. ranked ltb (take m U)) z) (ap (λ m. drop m U) z))

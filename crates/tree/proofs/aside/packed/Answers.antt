@@ -9,11 +9,11 @@ loop-i-init c =
     let ten : length c.args.letters ≡ 10 = search rules in
     (omega arith, omega arith, sym (drop_all 10 c.args.letters (omega arith)))
 
-pub overflow-mul-w : goal.overflow-mul-w
-overflow-mul-w c = let f = pack_fits c.loop-i.w 0 (10 - c.loop-i.i) c.loop-i.invariant.1 (omega arith) (omega arith) in omega arith
+pub overflow_mul-w : goal.overflow_mul-w
+overflow_mul-w c = let f = pack_fits c.loop-i.w 0 (10 - c.loop-i.i) c.loop-i.invariant.1 (omega arith) (omega arith) in omega arith
 
-pub overflow-add-w : goal.overflow-add-w
-overflow-add-w c = let f = pack_fits c.loop-i.w (get_or c.args.letters (c.loop-i.i - 1) 0) (10 - c.loop-i.i) c.loop-i.invariant.1 (omega arith) (c.requires (c.loop-i.i - 1)) in omega arith
+pub overflow_add-w : goal.overflow_add-w
+overflow_add-w c = let f = pack_fits c.loop-i.w (get_or c.args.letters (c.loop-i.i - 1) 0) (10 - c.loop-i.i) c.loop-i.invariant.1 (omega arith) (c.requires (c.loop-i.i - 1)) in omega arith
 
 pub loop-i-preserved : goal.loop-i-preserved
 loop-i-preserved c =

@@ -11,9 +11,9 @@ loop-i-preserved c =
     let i = c.loop-i.i in
     let bs = c.args.boxes.now in
     let z : c.args.dims - 0 ≡ c.args.dims = omega arith in
-    let r : c.common-of-sum.result ≡ common (take d c.args.b) (take d (get_or bs i [])) = c.common-of-sum.ensures.value ∙ ap (λ n. common (take n c.args.b) (take n (get_or bs i []))) z in (
+    let r : c.common_of-sum.result ≡ common (take d c.args.b) (take d (get_or bs i [])) = c.common_of-sum.ensures.value ∙ ap (λ n. common (take n c.args.b) (take n (get_or bs i []))) z in (
       ap₂ ◌+◌ c.loop-i.invariant.0 r ∙ sym (commons_push (take d c.args.b) (take d (get_or bs i [])) (map (take d) (take i bs))) ∙ ap (commons (take d c.args.b)) (sym (map_more (take d) bs i [] (omega arith))),
-      omega (arith, c.common-of-sum.ensures.small, c.loop-i.invariant.1),
+      omega (arith, c.common_of-sum.ensures.small, c.loop-i.invariant.1),
     )
 
 pub returns : goal.returns

@@ -22,8 +22,8 @@ grown d n i bs v pt b g r0 r1 more kept wider a sg sb og ob en l ep eb eg e0 e1 
 
 pub returns : goal.returns
 returns c =
-    grown c.args.dims (c.args.dims - 0) c.args.i c.args.boxes.now c.args.letters c.point-of.result (get_or c.args.boxes.now c.args.i []) c.union-of-g.result
-    _ _ c.saturating-sub-more.result c.saturating-sub-kept.result c.area-of-wider.result c.area-of-area.result c.common-sum.result c.common-sum-2.result c.common-of.result c.common-of-2.result
-    (omega arith) (omega arith) c.point-of.ensures refl c.union-of-g.ensures
-    c.saturating-sub.ensures c.saturating-sub-2.ensures c.saturating-sub-more.ensures c.saturating-sub-kept.ensures
-    c.common-sum.ensures c.common-of.ensures.value c.common-sum-2.ensures c.common-of-2.ensures.value c.area-of-area.ensures.value c.area-of-wider.ensures.value
+    grown c.args.dims (c.args.dims - 0) c.args.i c.args.boxes.now c.args.letters c.point_of.result (get_or c.args.boxes.now c.args.i []) c.union_of-g.result
+    _ _ c.saturating_sub-more.result c.saturating_sub-kept.result c.area_of-wider.result c.area_of-area.result c.common_sum.result c.common_sum-2.result c.common_of.result c.common_of-2.result
+    (omega arith) (omega arith) c.point_of.ensures refl c.union_of-g.ensures
+    c.saturating_sub.ensures c.saturating_sub-2.ensures c.saturating_sub-more.ensures c.saturating_sub-kept.ensures
+    c.common_sum.ensures c.common_of.ensures.value c.common_sum-2.ensures c.common_of-2.ensures.value c.area_of-area.ensures.value c.area_of-wider.ensures.value

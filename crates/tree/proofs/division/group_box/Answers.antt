@@ -13,9 +13,9 @@ pub loop-i-preserved : goal.loop-i-preserved
 loop-i-preserved c =
     let bs = c.args.boxes.now in
     let i = c.loop-i.i in
-    let t : beq c.in-code.result c.args.second ≡ alike c.args.second (has (c.args.code / 2 ^ c.loop-i.i) 0) =
-    alike_beq c.in-code.result c.args.second ∙ ap (alike c.args.second) c.in-code.ensures in
-    ap (λ x. joined x (group c.args.second (c.args.code / 2 ^ (i + 1)) (drop (i + 1) bs))) (c.union-if-more.ensures ∙ ap (λ x. cond x (join c.loop-i.r (get_or bs i [])) c.loop-i.r) t)
+    let t : beq c.in_code.result c.args.second ≡ alike c.args.second (has (c.args.code / 2 ^ c.loop-i.i) 0) =
+    alike_beq c.in_code.result c.args.second ∙ ap (alike c.args.second) c.in_code.ensures in
+    ap (λ x. joined x (group c.args.second (c.args.code / 2 ^ (i + 1)) (drop (i + 1) bs))) (c.union_if-more.ensures ∙ ap (λ x. cond x (join c.loop-i.r (get_or bs i [])) c.loop-i.r) t)
     ∙ side_step c.args.second c.args.code bs i c.loop-i.r _ (omega arith) c.loop-i.invariant
 
 pub returns : goal.returns

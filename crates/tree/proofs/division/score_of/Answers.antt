@@ -11,6 +11,6 @@ side_cut d b code bs r l e = cut d r ∙ ap (take d) e ∙ take_around d (group 
 
 pub returns : goal.returns
 returns c =
-    let a = side_cut c.args.dims false c.args.code c.args.boxes.now c.group-box-a.result c.requires.axes c.group-box-a.ensures in
-    let b = side_cut c.args.dims true c.args.code c.args.boxes.now c.group-box-b.result c.requires.axes c.group-box-b.ensures in
-    ap₂ (λ (x y : ℕ). (x, y, c.args.code)) (c.common-of.ensures.value ∙ ap₂ common a b) (ap₂ ◌+◌ (c.area-of.ensures.value ∙ ap area a) (c.area-of-2.ensures.value ∙ ap area b))
+    let a = side_cut c.args.dims false c.args.code c.args.boxes.now c.group_box-a.result c.requires.axes c.group_box-a.ensures in
+    let b = side_cut c.args.dims true c.args.code c.args.boxes.now c.group_box-b.result c.requires.axes c.group_box-b.ensures in
+    ap₂ (λ (x y : ℕ). (x, y, c.args.code)) (c.common_of.ensures.value ∙ ap₂ common a b) (ap₂ ◌+◌ (c.area_of.ensures.value ∙ ap area a) (c.area_of-2.ensures.value ∙ ap area b))

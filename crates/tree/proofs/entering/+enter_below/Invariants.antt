@@ -1,4 +1,4 @@
 use Rattle.tree.proofs.entering.+enter_below.Given as goal
 
-abbrev pub decreases-enter-below : goal.decreases-enter-below
-decreases-enter-below l = l.height
+abbrev pub decreases-enter_below : goal.decreases-enter_below
+decreases-enter_below l = l.height

@@ -12,13 +12,13 @@ cut_long n bs l = let z : n - 0 ≡ n = omega arith in ap (λ k. length (take k 
 pub choose-place-requires : goal.choose-place-requires
 choose-place-requires c =
     let n = (node c.args.nodes.now c.args.at).len in
-    let nine : length c.boxes-of-boxes.result ≡ 9 = search rules in
-    let l : length (take ((node c.args.nodes.now c.args.at).len - 0) c.boxes-of-boxes.result) ≡ (node c.args.nodes.now c.args.at).len = cut_long n c.boxes-of-boxes.result (omega (arith, c.requires.few)) in
+    let nine : length c.boxes_of-boxes.result ≡ 9 = search rules in
+    let l : length (take ((node c.args.nodes.now c.args.at).len - 0) c.boxes_of-boxes.result) ≡ (node c.args.nodes.now c.args.at).len = cut_long n c.boxes_of-boxes.result (omega (arith, c.requires.few)) in
     record {
       axes = c.requires.axes;
       some = omega (arith, c.requires.some);
       few = omega (arith, c.requires.few);
-      long = All-take (λ b. length b ≡ 10) (n - 0) c.boxes-of-boxes.result c.boxes-of-boxes.ensures.long;
+      long = All-take (λ b. length b ≡ 10) (n - 0) c.boxes_of-boxes.result c.boxes_of-boxes.ensures.long;
     }
 
 placed : (d n p : ℕ) (bs : List (List ℕ)) (es : List NodeEntry) (B : List NodeEntry → List (List ℕ)) (letters : List ℕ) → n ≤ length es
@@ -34,13 +34,13 @@ unfolding place_of
 returns c =
     let n = node c.args.nodes.now c.args.at in
     let l : (node c.args.nodes.now c.args.at).len ≤ length (node c.args.nodes.now c.args.at).entries = search rules in
-    let nine : length c.boxes-of-boxes.result ≡ 9 = search rules in
+    let nine : length c.boxes_of-boxes.result ≡ 9 = search rules in
     let e : c.choose-place.result ≡ place_of c.args.dims c.args.nodes.now c.args.height c.args.at c.args.clip =
-    placed c.args.dims n.len c.choose-place.result c.boxes-of-boxes.result n.entries (boxes_of c.args.dims c.args.nodes.now c.args.height) c.args.clip.letters
-    l c.choose-place.ensures.place c.boxes-of-boxes.ensures.boxes in
-    let w : c.choose-place.result < (node c.args.nodes.now c.args.at).len = omega (arith, c.choose-place.ensures.within, cut_long n.len c.boxes-of-boxes.result (omega (arith, c.requires.few))) in
+    placed c.args.dims n.len c.choose-place.result c.boxes_of-boxes.result n.entries (boxes_of c.args.dims c.args.nodes.now c.args.height) c.args.clip.letters
+    l c.choose-place.ensures.place c.boxes_of-boxes.ensures.boxes in
+    let w : c.choose-place.result < (node c.args.nodes.now c.args.at).len = omega (arith, c.choose-place.ensures.within, cut_long n.len c.boxes_of-boxes.result (omega (arith, c.requires.few))) in
     let v : c.choose-place.result < length (inside (node c.args.nodes.now c.args.at)) = omega (arith, length-take-le n.len n.entries l) in
     record {
       place = subst (λ p. p < length (inside n)) e v;
-      child = c.place-in.ensures ∙ ap place_in (sym (get_or-take n.len n.entries c.choose-place.result no_entry w) ∙ ap (λ p. get_or (inside n) p no_entry) e);
+      child = c.place_in.ensures ∙ ap place_in (sym (get_or-take n.len n.entries c.choose-place.result no_entry w) ∙ ap (λ p. get_or (inside n) p no_entry) e);
     }

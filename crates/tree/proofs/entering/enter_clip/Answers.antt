@@ -4,8 +4,8 @@ use Rattle.tree.specs.Nodes.{spot, times, held, EnteredRoot}
 use Rattle.tree.proofs.Stacks.{ask_apart, ask_spares, placed}
 use Rattle.tree.proofs.entering.enter_clip.Goals as goal
 
-pub enter-root-j-requires : goal.enter-root-j-requires
-enter-root-j-requires c =
+pub enter_root-j-requires : goal.enter_root-j-requires
+enter_root-j-requires c =
     let N = c.args.nodes.now in
     let F = c.args.free.now in
     let t = c.args.top in
@@ -18,5 +18,5 @@ enter-root-j-requires c =
 
 pub returns : goal.returns
 returns c =
-    placed c.args.nodes.now c.args.free.now c.args.top c.args.height c.args.root c.requires.spread c.args.dims c.args.clip c.enter-root-j.new.nodes c.enter-root-j.result.1 c.enter-root-j.result.0 c.enter-root-j.result.2 c.requires.room
-    (subst (λ s. EnteredRoot c.args.dims c.args.nodes.now c.enter-root-j.new.nodes s c.args.height c.args.root c.args.clip c.enter-root-j.result.1 c.enter-root-j.result.0 c.enter-root-j.result.2) (take_rest c.args.free.now c.args.top) c.enter-root-j.ensures)
+    placed c.args.nodes.now c.args.free.now c.args.top c.args.height c.args.root c.requires.spread c.args.dims c.args.clip c.enter_root-j.new.nodes c.enter_root-j.result.1 c.enter_root-j.result.0 c.enter_root-j.result.2 c.requires.room
+    (subst (λ s. EnteredRoot c.args.dims c.args.nodes.now c.enter_root-j.new.nodes s c.args.height c.args.root c.args.clip c.enter_root-j.result.1 c.enter_root-j.result.0 c.enter_root-j.result.2) (take_rest c.args.free.now c.args.top) c.enter_root-j.ensures)

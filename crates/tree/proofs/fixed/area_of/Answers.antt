@@ -6,6 +6,6 @@ pub returns : goal.returns
 returns c =
     let b = c.args.sets.now in
     record {
-      value = c.unwrap-or.ensures ∙ ap (λ x. unwrap_or x 1) c.area.ensures.value ∙ area_or b c.requires;
-      small = bounded_or c.area.result (length b) c.unwrap-or.result c.unwrap-or.ensures c.area.ensures.most c.requires;
+      value = c.unwrap_or.ensures ∙ ap (λ x. unwrap_or x 1) c.area.ensures.value ∙ area_or b c.requires;
+      small = bounded_or c.area.result (length b) c.unwrap_or.result c.unwrap_or.ensures c.area.ensures.most c.requires;
     }

@@ -7,6 +7,6 @@ returns c =
     let a = c.args.a.now in
     let b = c.args.b.now in
     record {
-      value = c.unwrap-or.ensures ∙ ap (λ x. unwrap_or x 1) c.common-area.ensures.value ∙ common_or a b c.requires.short c.requires.same;
-      small = bounded_or c.common-area.result (length a) c.unwrap-or.result c.unwrap-or.ensures c.common-area.ensures.most c.requires.short;
+      value = c.unwrap_or.ensures ∙ ap (λ x. unwrap_or x 1) c.common_area.ensures.value ∙ common_or a b c.requires.short c.requires.same;
+      small = bounded_or c.common_area.result (length a) c.unwrap_or.result c.unwrap_or.ensures c.common_area.ensures.most c.requires.short;
     }

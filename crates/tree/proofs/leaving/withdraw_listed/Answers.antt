@@ -3,8 +3,8 @@ use Rattle.tree.proofs.Stacks.{ask_once}
 use Rattle.tree.proofs.Withdrawals.{ask_listed, ask_two, ask_words, ask_room, ask_order, left_stands, withdrew}
 use Rattle.tree.proofs.leaving.withdraw_listed.Goals as goal
 
-pub withdraw-root-rest-requires : goal.withdraw-root-rest-requires
-withdraw-root-rest-requires c =
+pub withdraw_root-rest-requires : goal.withdraw_root-rest-requires
+withdraw_root-rest-requires c =
     let d = c.args.dims in let N = c.args.nodes.now in let F = c.args.free.now in let at = c.args.root in
     let s = c.requires.stands in
     record {
@@ -18,27 +18,27 @@ withdraw-root-rest-requires c =
       stack = s.high;
     }
 
-pub order-asides-requires : goal.order-asides-requires
-order-asides-requires c =
-    let at = c.args.root in let out = c.withdraw-root-rest in
+pub order_asides-requires : goal.order_asides-requires
+order_asides-requires c =
+    let at = c.args.root in let out = c.withdraw_root-rest in
     let r = ask_order c.args.dims c.args.nodes.now c.args.free.now at.used at.height at.place c.args.number c.requires.stands c.requires.listed c.requires.once
     out.new.nodes c.args.words.now out.new.words out.result.2 out.new.free out.result.3 out.result.1 out.result.0 out.ensures (length c.args.words.now) c.requires.words refl in
     record { few = r.0; room = r.1 }
 
-pub enter-again-place-requires : goal.enter-again-place-requires
-enter-again-place-requires c =
-    let at = c.args.root in let out = c.withdraw-root-rest in
+pub enter_again-place-requires : goal.enter_again-place-requires
+enter_again-place-requires c =
+    let at = c.args.root in let out = c.withdraw_root-rest in
     let r = ask_order c.args.dims c.args.nodes.now c.args.free.now at.used at.height at.place c.args.number c.requires.stands c.requires.listed c.requires.once
     out.new.nodes c.args.words.now out.new.words out.result.2 out.new.free out.result.3 out.result.1 out.result.0 out.ensures (length c.args.words.now) c.requires.words refl in
     record {
       stands = left_stands c.args.dims c.args.nodes.now c.args.free.now at.used at.height at.place c.args.number c.requires.stands c.requires.listed c.requires.once
           out.new.nodes c.args.words.now out.new.words out.result.2 out.new.free out.result.3 out.result.1 out.result.0 out.ensures;
-      words = omega (arith, r.1, c.order-asides.ensures.long);
+      words = omega (arith, r.1, c.order_asides.ensures.long);
     }
 
 pub returns : goal.returns
 returns c =
-    let at = c.args.root in let out = c.withdraw-root-rest in let back = c.enter-again-place in
+    let at = c.args.root in let out = c.withdraw_root-rest in let back = c.enter_again-place in
     withdrew c.args.dims c.args.nodes.now c.args.free.now at.used at.height at.place c.args.number c.requires.stands c.requires.listed c.requires.once
     out.new.nodes c.args.words.now out.new.words out.result.2 out.new.free out.result.3 out.result.1 out.result.0 out.ensures
-    c.order-asides.new.words back.new.nodes back.result.2 back.result.1 back.result.0 c.order-asides.ensures back.ensures
+    c.order_asides.new.words back.new.nodes back.result.2 back.result.1 back.result.0 c.order_asides.ensures back.ensures

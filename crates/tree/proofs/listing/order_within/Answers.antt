@@ -6,6 +6,6 @@ use Rattle.tree.proofs.listing.order_within.Goals as goal
 
 pub returns : goal.returns
 returns c =
-    let same = c.copy-from-slice.ensures.after in
-    ordered c.args.clips.now c.sort-words.new.list c.write-keyed.new.out c.requires.few
-    (c.sort-words.ensures ∙ ap (ranked ltb) (c.write-keys.ensures ∙ ap (keys_from 0) same)) (c.write-keyed.ensures ∙ ap (λ x. map (clip_of x) c.sort-words.new.list) same)
+    let same = c.copy_from_slice.ensures.after in
+    ordered c.args.clips.now c.sort_words.new.list c.write_keyed.new.out c.requires.few
+    (c.sort_words.ensures ∙ ap (ranked ltb) (c.write_keys.ensures ∙ ap (keys_from 0) same)) (c.write_keyed.ensures ∙ ap (λ x. map (clip_of x) c.sort_words.new.list) same)

@@ -3,8 +3,8 @@ use Rattle.std.specs.List.{AllByRecursion}
 use Rattle.tree.specs.Leaving.{listed_in}
 use Rattle.tree.proofs.lookup.+is_listed.Given as goal
 
-abbrev pub decreases-is-listed : goal.decreases-is-listed
-decreases-is-listed l = l.height
+abbrev pub decreases-is_listed : goal.decreases-is_listed
+decreases-is_listed l = l.height
 
 abbrev pub invariant-loop-k : goal.invariant-loop-k
 invariant-loop-k l = (d : ℕ) → AllByRecursion (λ e. listed_in d l.nodes (l.height - 1) l.number e ≡ false) (take l.k l.es)

@@ -7,22 +7,22 @@ use Rattle.tree.proofs.Lists.{cut}
 use Rattle.tree.proofs.Looks.{first_here, first_later, first_none}
 use Rattle.tree.proofs.lookup.holder_of.Goals as goal
 
-pub is-listed-requires : goal.is-listed-requires
-is-listed-requires c =
+pub is_listed-requires : goal.is_listed-requires
+is_listed-requires c =
     let n = node c.args.nodes.now c.args.at in
     let S = Sound c.args.nodes.now c.args.height in
     All-get_or S (take (n.len - 0) n.entries) c.loop-k.k no_entry c.loop-k-test.true (subst (AllByRecursion S) (sym (cut n.len n.entries)) c.requires.sound)
 
-pub returns-then-is-listed : goal.returns-then-is-listed
-returns-then-is-listed c =
+pub returns-then-is_listed : goal.returns-then-is_listed
+returns-then-is_listed c =
     let n = node c.args.nodes.now c.args.at in
-    λ d. first_here (listed_in d c.args.nodes.now c.args.height c.args.number) (take (n.len - 0) n.entries) c.loop-k.k c.loop-k-test.true (sym (c.if-is-listed.ensures d)) (c.loop-k.invariant d)
+    λ d. first_here (listed_in d c.args.nodes.now c.args.height c.args.number) (take (n.len - 0) n.entries) c.loop-k.k c.loop-k-test.true (sym (c.if-is_listed.ensures d)) (c.loop-k.invariant d)
     ∙ ap (first_of (listed_in d c.args.nodes.now c.args.height c.args.number)) (cut n.len n.entries)
 
 pub loop-k-preserved : goal.loop-k-preserved
 loop-k-preserved c =
     let n = node c.args.nodes.now c.args.at in
-    λ d. first_later (listed_in d c.args.nodes.now c.args.height c.args.number) (take (n.len - 0) n.entries) c.loop-k.k c.loop-k-test.true (sym (c.if-is-listed.ensures d)) (c.loop-k.invariant d)
+    λ d. first_later (listed_in d c.args.nodes.now c.args.height c.args.number) (take (n.len - 0) n.entries) c.loop-k.k c.loop-k-test.true (sym (c.if-is_listed.ensures d)) (c.loop-k.invariant d)
 
 pub returns : goal.returns
 returns c =

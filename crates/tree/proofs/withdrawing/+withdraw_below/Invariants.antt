@@ -1,4 +1,4 @@
 use Rattle.tree.proofs.withdrawing.+withdraw_below.Given as goal
 
-abbrev pub decreases-withdraw-below : goal.decreases-withdraw-below
-decreases-withdraw-below l = l.height
+abbrev pub decreases-withdraw_below : goal.decreases-withdraw_below
+decreases-withdraw_below l = l.height

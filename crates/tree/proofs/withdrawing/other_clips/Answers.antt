@@ -4,7 +4,7 @@ use Rattle.tree.specs.Leaving.{kept}
 use Rattle.tree.proofs.Looks.{kept_takes, kept_passes, kept_end}
 use Rattle.tree.proofs.SetsAside.{flip_true, flip_false}
 use Rattle.tree.proofs.withdrawing.other_clips.Goals as goal
-use Rattle.tree.proofs.withdrawing.other_clips.Goals.{then_Keeps, else-keeps}
+use Rattle.tree.proofs.withdrawing.other_clips.Goals.{then-keeps, else-keeps}
 
 pub loop-i-preserved : goal.loop-i-preserved
 loop-i-preserved c =
@@ -12,7 +12,7 @@ loop-i-preserved c =
     let rest = kept c.args.number (drop (c.loop-i.i + 1) es) in
     let b = eqb (clip_in (get_or es c.loop-i.i no_entry)).number c.args.number in
     elim c.if-keeps.branch [
-      | then_Keeps w ↦ (
+      | then-keeps w ↦ (
         ap length w.out-is ∙ length-set _ _ _ ∙ c.loop-i.invariant.0,
         omega (arith, w.n-is),
         ap₂ (λ n o. take n o ++ rest) w.n-is w.out-is

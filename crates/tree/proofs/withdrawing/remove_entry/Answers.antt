@@ -17,18 +17,18 @@ shifted p l =
 left : (p n m : ℕ) (xs es : List NodeEntry) → p < 8 → take m xs ≡ group false ((1 * 2 ^ p) % 18446744073709551616) (take (n - 0) es) → take (m - 0) xs ≡ take p (take n es) ++ drop (suc p) (take n es)
 left p n m xs es l e = cut m xs ∙ e ∙ ap₂ (group false) (shifted p l) (cut n es) ∙ group_out p (take n es)
 
-pub overflow-shl-p : goal.overflow-shl-p
-overflow-shl-p c =
+pub overflow_shl-p : goal.overflow_shl-p
+overflow_shl-p c =
     let n = node c.args.nodes.now c.args.at in
     omega (arith, c.requires.place, length-take n.len n.entries, c.requires.few)
 
-pub write-node-requires : goal.write-node-requires
-write-node-requires c =
+pub write_node-requires : goal.write_node-requires
+write_node-requires c =
     let n = node c.args.nodes.now c.args.at in
     let es = inside n in
     let p = c.args.p in
     let l : c.args.p < 8 = omega (arith, c.requires.place, length-take n.len n.entries, c.requires.few) in
-    let e = left p n.len c.group-of-m.result.1 c.group-of-m.result.0 n.entries l c.group-of-m.ensures.0 in
+    let e = left p n.len c.group_of-m.result.1 c.group_of-m.result.0 n.entries l c.group_of-m.ensures.0 in
     record {
       axes = c.requires.axes;
       few = omega (arith, ap length e, length-append (take p es) (drop (suc p) es), length-take p es, length-drop (suc p) es, length-take n.len n.entries, c.requires.few);
@@ -40,5 +40,5 @@ pub returns : goal.returns
 returns c =
     let n = node c.args.nodes.now c.args.at in
     let l : c.args.p < 8 = omega (arith, c.requires.place, length-take n.len n.entries, c.requires.few) in
-    let e = left c.args.p n.len c.group-of-m.result.1 c.group-of-m.result.0 n.entries l c.group-of-m.ensures.0 in
-    subst (Written c.args.dims c.args.nodes.now c.write-node.new.nodes c.args.height c.args.at) e c.write-node.ensures
+    let e = left c.args.p n.len c.group_of-m.result.1 c.group_of-m.result.0 n.entries l c.group_of-m.ensures.0 in
+    subst (Written c.args.dims c.args.nodes.now c.write_node.new.nodes c.args.height c.args.at) e c.write_node.ensures

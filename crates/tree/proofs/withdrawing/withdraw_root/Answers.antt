@@ -7,32 +7,32 @@ use Rattle.tree.proofs.withdrawing.withdraw_root.Goals as goal
 
 pub returns-then-height-eq0 : goal.returns-then-height-eq0
 returns-then-height-eq0 c =
-    sunk_leaf c.args.dims c.args.nodes.now c.withdraw-below-m.new.nodes c.args.height c.args.root c.args.number c.args.words.now c.withdraw-below-m.new.words c.args.n c.withdraw-below-m.result.0 c.args.free.now c.withdraw-below-m.new.free c.args.top c.withdraw-below-m.result.1
-    c.withdraw-below-m.ensures (sound_parts c.args.nodes.now c.args.height c.args.root c.requires.sound).0 c.if-height-eq0.true
+    sunk_leaf c.args.dims c.args.nodes.now c.withdraw_below-m.new.nodes c.args.height c.args.root c.args.number c.args.words.now c.withdraw_below-m.new.words c.args.n c.withdraw_below-m.result.0 c.args.free.now c.withdraw_below-m.new.free c.args.top c.withdraw_below-m.result.1
+    c.withdraw_below-m.ensures (sound_parts c.args.nodes.now c.args.height c.args.root c.requires.sound).0 c.if-height-eq0.true
 
-pub slice-copy-out·r : goal.slice-copy-out·r
-slice-copy-out·r c = root_in c.args.dims c.args.nodes.now c.withdraw-below-m.new.nodes c.args.height c.args.root c.args.number c.args.words.now c.withdraw-below-m.new.words c.args.n c.withdraw-below-m.result.0 c.args.free.now c.withdraw-below-m.new.free c.args.top c.withdraw-below-m.result.1 c.withdraw-below-m.ensures (sound_parts c.args.nodes.now c.args.height c.args.root c.requires.sound).0
+pub slice_copy_out-r : goal.slice_copy_out-r
+slice_copy_out-r c = root_in c.args.dims c.args.nodes.now c.withdraw_below-m.new.nodes c.args.height c.args.root c.args.number c.args.words.now c.withdraw_below-m.new.words c.args.n c.withdraw_below-m.result.0 c.args.free.now c.withdraw_below-m.new.free c.args.top c.withdraw_below-m.result.1 c.withdraw_below-m.ensures (sound_parts c.args.nodes.now c.args.height c.args.root c.requires.sound).0
 
-pub offset-bounds-nodes-root : goal.offset-bounds-nodes-root
-offset-bounds-nodes-root c = let l = root_in c.args.dims c.args.nodes.now c.withdraw-below-m.new.nodes c.args.height c.args.root c.args.number c.args.words.now c.withdraw-below-m.new.words c.args.n c.withdraw-below-m.result.0 c.args.free.now c.withdraw-below-m.new.free c.args.top c.withdraw-below-m.result.1 c.withdraw-below-m.ensures (sound_parts c.args.nodes.now c.args.height c.args.root c.requires.sound).0 in omega (arith, l)
+pub offset_bounds-nodes-root : goal.offset_bounds-nodes-root
+offset_bounds-nodes-root c = let l = root_in c.args.dims c.args.nodes.now c.withdraw_below-m.new.nodes c.args.height c.args.root c.args.number c.args.words.now c.withdraw_below-m.new.words c.args.n c.withdraw_below-m.result.0 c.args.free.now c.withdraw_below-m.new.free c.args.top c.withdraw_below-m.result.1 c.withdraw_below-m.ensures (sound_parts c.args.nodes.now c.args.height c.args.root c.requires.sound).0 in omega (arith, l)
 
 pub returns-then-r-ne1 : goal.returns-then-r-ne1
-returns-then-r-ne1 c = sunk_wide c.args.dims c.args.nodes.now c.withdraw-below-m.new.nodes c.args.height c.args.root c.args.number c.args.words.now c.withdraw-below-m.new.words c.args.n c.withdraw-below-m.result.0 c.args.free.now c.withdraw-below-m.new.free c.args.top c.withdraw-below-m.result.1 c.withdraw-below-m.ensures (sound_parts c.args.nodes.now c.args.height c.args.root c.requires.sound).0 c.if-height-eq0.false (c.requires.two c.if-height-eq0.false) c.if-r-ne1.true
+returns-then-r-ne1 c = sunk_wide c.args.dims c.args.nodes.now c.withdraw_below-m.new.nodes c.args.height c.args.root c.args.number c.args.words.now c.withdraw_below-m.new.words c.args.n c.withdraw_below-m.result.0 c.args.free.now c.withdraw_below-m.new.free c.args.top c.withdraw_below-m.result.1 c.withdraw_below-m.ensures (sound_parts c.args.nodes.now c.args.height c.args.root c.requires.sound).0 c.if-height-eq0.false (c.requires.two c.if-height-eq0.false) c.if-r-ne1.true
 
-pub child-of-j-requires : goal.child-of-j-requires
-child-of-j-requires c = record { within = root_in c.args.dims c.args.nodes.now c.withdraw-below-m.new.nodes c.args.height c.args.root c.args.number c.args.words.now c.withdraw-below-m.new.words c.args.n c.withdraw-below-m.result.0 c.args.free.now c.withdraw-below-m.new.free c.args.top c.withdraw-below-m.result.1 c.withdraw-below-m.ensures (sound_parts c.args.nodes.now c.args.height c.args.root c.requires.sound).0; place = omega (arith, c.withdraw-below-m.ensures.full, c.if-r-ne1.false); few = c.withdraw-below-m.ensures.few }
+pub child_of-j-requires : goal.child_of-j-requires
+child_of-j-requires c = record { within = root_in c.args.dims c.args.nodes.now c.withdraw_below-m.new.nodes c.args.height c.args.root c.args.number c.args.words.now c.withdraw_below-m.new.words c.args.n c.withdraw_below-m.result.0 c.args.free.now c.withdraw_below-m.new.free c.args.top c.withdraw_below-m.result.1 c.withdraw_below-m.ensures (sound_parts c.args.nodes.now c.args.height c.args.root c.requires.sound).0; place = omega (arith, c.withdraw_below-m.ensures.full, c.if-r-ne1.false); few = c.withdraw_below-m.ensures.few }
 
-pub overflow-sub-free : goal.overflow-sub-free
-overflow-sub-free c = let q = ask_lower c.args.dims c.args.nodes.now c.withdraw-below-m.new.nodes c.args.height c.args.root c.args.number c.args.words.now c.withdraw-below-m.new.words c.args.n c.withdraw-below-m.result.0 c.args.free.now c.withdraw-below-m.new.free c.args.top c.withdraw-below-m.result.1 c.if-r-ne1.false c.requires.stack c.if-height-eq0.false c.withdraw-below-m.ensures c.requires.room in omega (arith, q.0)
+pub overflow_sub-free : goal.overflow_sub-free
+overflow_sub-free c = let q = ask_lower c.args.dims c.args.nodes.now c.withdraw_below-m.new.nodes c.args.height c.args.root c.args.number c.args.words.now c.withdraw_below-m.new.words c.args.n c.withdraw_below-m.result.0 c.args.free.now c.withdraw_below-m.new.free c.args.top c.withdraw_below-m.result.1 c.if-r-ne1.false c.requires.stack c.if-height-eq0.false c.withdraw_below-m.ensures c.requires.room in omega (arith, q.0)
 
-pub overflow-sub-result-2 : goal.overflow-sub-result-2
-overflow-sub-result-2 c = let q = ask_lower c.args.dims c.args.nodes.now c.withdraw-below-m.new.nodes c.args.height c.args.root c.args.number c.args.words.now c.withdraw-below-m.new.words c.args.n c.withdraw-below-m.result.0 c.args.free.now c.withdraw-below-m.new.free c.args.top c.withdraw-below-m.result.1 c.if-r-ne1.false c.requires.stack c.if-height-eq0.false c.withdraw-below-m.ensures c.requires.room in omega (arith, q.0)
+pub overflow_sub-result-2 : goal.overflow_sub-result-2
+overflow_sub-result-2 c = let q = ask_lower c.args.dims c.args.nodes.now c.withdraw_below-m.new.nodes c.args.height c.args.root c.args.number c.args.words.now c.withdraw_below-m.new.words c.args.n c.withdraw_below-m.result.0 c.args.free.now c.withdraw_below-m.new.free c.args.top c.withdraw_below-m.result.1 c.if-r-ne1.false c.requires.stack c.if-height-eq0.false c.withdraw_below-m.ensures c.requires.room in omega (arith, q.0)
 
 pub bounds-free-u : goal.bounds-free-u
-bounds-free-u c = (ask_lower c.args.dims c.args.nodes.now c.withdraw-below-m.new.nodes c.args.height c.args.root c.args.number c.args.words.now c.withdraw-below-m.new.words c.args.n c.withdraw-below-m.result.0 c.args.free.now c.withdraw-below-m.new.free c.args.top c.withdraw-below-m.result.1 c.if-r-ne1.false c.requires.stack c.if-height-eq0.false c.withdraw-below-m.ensures c.requires.room).1
+bounds-free-u c = (ask_lower c.args.dims c.args.nodes.now c.withdraw_below-m.new.nodes c.args.height c.args.root c.args.number c.args.words.now c.withdraw_below-m.new.words c.args.n c.withdraw_below-m.result.0 c.args.free.now c.withdraw_below-m.new.free c.args.top c.withdraw_below-m.result.1 c.if-r-ne1.false c.requires.stack c.if-height-eq0.false c.withdraw_below-m.ensures c.requires.room).1
 
 pub returns : goal.returns
 returns c =
-    subst (λ j. WithdrawnRoot c.args.dims c.args.nodes.now c.withdraw-below-m.new.nodes c.args.height c.args.root c.args.number c.args.words.now c.withdraw-below-m.new.words c.args.n c.withdraw-below-m.result.0 c.args.free.now
-    (set c.withdraw-below-m.new.free (c.withdraw-below-m.result.1 - 1) c.args.root) c.args.top (c.withdraw-below-m.result.1 - 1) (c.args.height - 1) j) (sym c.child-of-j.ensures)
-    (done_lower c.args.dims c.args.nodes.now c.withdraw-below-m.new.nodes c.args.height c.args.root c.args.number c.args.words.now c.withdraw-below-m.new.words c.args.n c.withdraw-below-m.result.0 c.args.free.now c.withdraw-below-m.new.free c.args.top c.withdraw-below-m.result.1 c.if-r-ne1.false c.requires.stack c.if-height-eq0.false c.withdraw-below-m.ensures c.requires.room)
+    subst (λ j. WithdrawnRoot c.args.dims c.args.nodes.now c.withdraw_below-m.new.nodes c.args.height c.args.root c.args.number c.args.words.now c.withdraw_below-m.new.words c.args.n c.withdraw_below-m.result.0 c.args.free.now
+    (set c.withdraw_below-m.new.free (c.withdraw_below-m.result.1 - 1) c.args.root) c.args.top (c.withdraw_below-m.result.1 - 1) (c.args.height - 1) j) (sym c.child_of-j.ensures)
+    (done_lower c.args.dims c.args.nodes.now c.withdraw_below-m.new.nodes c.args.height c.args.root c.args.number c.args.words.now c.withdraw_below-m.new.words c.args.n c.withdraw_below-m.result.0 c.args.free.now c.withdraw_below-m.new.free c.args.top c.withdraw_below-m.result.1 c.if-r-ne1.false c.requires.stack c.if-height-eq0.false c.withdraw_below-m.ensures c.requires.room)

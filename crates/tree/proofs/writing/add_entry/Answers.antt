@@ -15,5 +15,5 @@ pub returns : goal.returns
 returns c =
     let n = node c.args.nodes.now c.args.at in
     let l : (node c.args.nodes.now c.args.at).len ≤ length (node c.args.nodes.now c.args.at).entries = search rules in
-    let e = longer n.len (n.len + 1 - 0) n.entries c.with-entry-entries.result c.args.entry l (omega arith) c.with-entry-entries.ensures in
-    subst (λ es. Fitted c.args.dims c.args.nodes.now c.fit-entries.new.nodes c.args.height c.args.at c.args.spare es c.fit-entries.result) e c.fit-entries.ensures
+    let e = longer n.len (n.len + 1 - 0) n.entries c.with_entry-entries.result c.args.entry l (omega arith) c.with_entry-entries.ensures in
+    subst (λ es. Fitted c.args.dims c.args.nodes.now c.fit_entries.new.nodes c.args.height c.args.at c.args.spare es c.fit_entries.result) e c.fit_entries.ensures

@@ -12,51 +12,51 @@ use Rattle.tree.proofs.writing.fit_entries.Goals as goal
 pub returns-then-entries-le8 : goal.returns-then-entries-le8
 returns-then-entries-le8 c =
     settled_one c.args.dims c.args.nodes.now c.args.height c.args.at c.args.spare c.args.entries.now c.requires.within c.requires.apart c.requires.sound
-    c.write-node.new.nodes c.write-node.ensures c.requires.some (omega arith)
+    c.write_node.new.nodes c.write_node.ensures c.requires.some (omega arith)
 
 -- the code is that of the boxes of the entries
 coded : (dims n code : ℕ) (bs xs ys : List (List ℕ)) → length bs ≡ n → map (take dims) (take n bs) ≡ xs → xs ≡ ys → code ≡ divided dims (map (take dims) bs) → code ≡ divided dims ys
 coded dims n code bs xs ys l e f h = h ∙ ap (λ x. divided dims (map (take dims) x)) (sym (take_all n bs (omega arith))) ∙ ap (divided dims) (e ∙ f)
 
-pub write-node-requires-2 : goal.write-node-requires-2
-write-node-requires-2 c =
+pub write_node-requires-2 : goal.write_node-requires-2
+write_node-requires-2 c =
     let nine : length c.args.entries.now ≡ 9 = omega arith in
-    let h : Code c.best-division-code.result = subst Code (sym c.best-division-code.ensures) (divided_code c.args.dims (map (take c.args.dims) c.boxes-of-boxes.result)) in
-    let e = cut c.group-of-n.result.1 c.group-of-n.result.0 ∙ c.group-of-n.ensures.0 in
-    let f = side_few false c.best-division-code.result c.args.entries.now _ e nine h in
+    let h : Code c.best_division-code.result = subst Code (sym c.best_division-code.ensures) (divided_code c.args.dims (map (take c.args.dims) c.boxes_of-boxes.result)) in
+    let e = cut c.group_of-n.result.1 c.group_of-n.result.0 ∙ c.group_of-n.ensures.0 in
+    let f = side_few false c.best_division-code.result c.args.entries.now _ e nine h in
     record {
       axes = c.requires.axes;
       few = f.1;
-      sound = subst (AllByRecursion (Sound c.args.nodes.now c.args.height)) (sym e) (all_group (Sound c.args.nodes.now c.args.height) false c.best-division-code.result c.args.entries.now c.requires.sound);
+      sound = subst (AllByRecursion (Sound c.args.nodes.now c.args.height)) (sym e) (all_group (Sound c.args.nodes.now c.args.height) false c.best_division-code.result c.args.entries.now c.requires.sound);
       within = c.requires.within;
     }
 
-pub write-node-requires-3 : goal.write-node-requires-3
-write-node-requires-3 c =
+pub write_node-requires-3 : goal.write_node-requires-3
+write_node-requires-3 c =
     let nine : length c.args.entries.now ≡ 9 = omega arith in
-    let h : Code c.best-division-code.result = subst Code (sym c.best-division-code.ensures) (divided_code c.args.dims (map (take c.args.dims) c.boxes-of-boxes.result)) in
-    let e = cut c.group-of-m.result.1 c.group-of-m.result.0 ∙ c.group-of-m.ensures.0 in
-    let g = cut c.group-of-n.result.1 c.group-of-n.result.0 ∙ c.group-of-n.ensures.0 in
-    let f = side_few true c.best-division-code.result c.args.entries.now _ e nine h in
-    let p = subst (λ x. Written c.args.dims c.args.nodes.now c.write-node-2.new.nodes c.args.height c.args.at x) g c.write-node-2.ensures in
+    let h : Code c.best_division-code.result = subst Code (sym c.best_division-code.ensures) (divided_code c.args.dims (map (take c.args.dims) c.boxes_of-boxes.result)) in
+    let e = cut c.group_of-m.result.1 c.group_of-m.result.0 ∙ c.group_of-m.ensures.0 in
+    let g = cut c.group_of-n.result.1 c.group_of-n.result.0 ∙ c.group_of-n.ensures.0 in
+    let f = side_few true c.best_division-code.result c.args.entries.now _ e nine h in
+    let p = subst (λ x. Written c.args.dims c.args.nodes.now c.write_node-2.new.nodes c.args.height c.args.at x) g c.write_node-2.ensures in
     let s = second_side c.args.dims c.args.nodes.now c.args.height c.args.at c.args.spare c.args.entries.now c.requires.within c.requires.apart c.requires.sound
-    c.write-node-2.new.nodes c.best-division-code.result p in
+    c.write_node-2.new.nodes c.best_division-code.result p in
     record {
       axes = c.requires.axes;
       few = f.1;
-      sound = subst (AllByRecursion (Sound c.write-node-2.new.nodes c.args.height)) (sym e) s.1;
+      sound = subst (AllByRecursion (Sound c.write_node-2.new.nodes c.args.height)) (sym e) s.1;
       within = omega (arith, s.0, c.requires.room);
     }
 
 pub returns : goal.returns
 returns c =
     let nine : length c.args.entries.now ≡ 9 = omega arith in
-    let h : Code c.best-division-code.result = subst Code (sym c.best-division-code.ensures) (divided_code c.args.dims (map (take c.args.dims) c.boxes-of-boxes.result)) in
-    let e = cut c.group-of-m.result.1 c.group-of-m.result.0 ∙ c.group-of-m.ensures.0 in
-    let g = cut c.group-of-n.result.1 c.group-of-n.result.0 ∙ c.group-of-n.ensures.0 in
-    let p = subst (λ x. Written c.args.dims c.args.nodes.now c.write-node-2.new.nodes c.args.height c.args.at x) g c.write-node-2.ensures in
-    let q = subst (λ x. Written c.args.dims c.write-node-2.new.nodes c.write-node-3.new.nodes c.args.height c.args.spare x) e c.write-node-3.ensures in
-    let ten : length c.boxes-of-boxes.result ≡ length c.args.entries.now = search rules in
+    let h : Code c.best_division-code.result = subst Code (sym c.best_division-code.ensures) (divided_code c.args.dims (map (take c.args.dims) c.boxes_of-boxes.result)) in
+    let e = cut c.group_of-m.result.1 c.group_of-m.result.0 ∙ c.group_of-m.ensures.0 in
+    let g = cut c.group_of-n.result.1 c.group_of-n.result.0 ∙ c.group_of-n.ensures.0 in
+    let p = subst (λ x. Written c.args.dims c.args.nodes.now c.write_node-2.new.nodes c.args.height c.args.at x) g c.write_node-2.ensures in
+    let q = subst (λ x. Written c.args.dims c.write_node-2.new.nodes c.write_node-3.new.nodes c.args.height c.args.spare x) e c.write_node-3.ensures in
+    let ten : length c.boxes_of-boxes.result ≡ length c.args.entries.now = search rules in
     settled_two c.args.dims c.args.nodes.now c.args.height c.args.at c.args.spare c.args.entries.now c.requires.within c.requires.apart c.requires.sound
-    c.write-node-2.new.nodes c.write-node-3.new.nodes c.best-division-code.result c.requires.room nine h p q
-    (coded c.args.dims (length c.args.entries.now) c.best-division-code.result c.boxes-of-boxes.result _ _ ten c.boxes-of-boxes.ensures.boxes (sym (map_map (sets_of c.args.height) (entry_of c.args.dims c.args.nodes.now c.args.height) c.args.entries.now)) c.best-division-code.ensures)
+    c.write_node-2.new.nodes c.write_node-3.new.nodes c.best_division-code.result c.requires.room nine h p q
+    (coded c.args.dims (length c.args.entries.now) c.best_division-code.result c.boxes_of-boxes.result _ _ ten c.boxes_of-boxes.ensures.boxes (sym (map_map (sets_of c.args.height) (entry_of c.args.dims c.args.nodes.now c.args.height) c.args.entries.now)) c.best_division-code.ensures)

@@ -6,21 +6,21 @@ use Rattle.tree.proofs.Cuts.{take_point}
 use Rattle.tree.proofs.Levels.{leaf_sets, node_sets, node_sound}
 use Rattle.tree.proofs.writing.sets_of.Goals as goal
 
-pub bounds-nodes-place-in : goal.bounds-nodes-place-in
-bounds-nodes-place-in c = subst (λ p. p < length c.args.nodes.now) (sym c.place-in.ensures) (node_sound _ c.args.height c.args.e c.if-height-eq0.false c.requires)
+pub bounds-nodes-place_in : goal.bounds-nodes-place_in
+bounds-nodes-place_in c = subst (λ p. p < length c.args.nodes.now) (sym c.place_in.ensures) (node_sound _ c.args.height c.args.e c.if-height-eq0.false c.requires)
 
 pub returns-then-height-eq0 : goal.returns-then-height-eq0
 returns-then-height-eq0 c =
-    ap (take c.args.dims) c.point-of.ensures ∙ take_point c.args.dims _
-    ∙ ap (λ (x : StoredClip). point (take c.args.dims x.letters)) c.clip-in-c.ensures
+    ap (take c.args.dims) c.point_of.ensures ∙ take_point c.args.dims _
+    ∙ ap (λ (x : StoredClip). point (take c.args.dims x.letters)) c.clip_in-c.ensures
     ∙ sym (leaf_sets c.args.dims c.args.nodes.now c.args.height c.args.e c.if-height-eq0.true)
 
 pub returns-else-height-eq0 : goal.returns-else-height-eq0
 returns-else-height-eq0 c =
-    ap (λ p. take c.args.dims (node c.args.nodes.now p).sets) c.place-in.ensures
+    ap (λ p. take c.args.dims (node c.args.nodes.now p).sets) c.place_in.ensures
     ∙ sym (node_sets c.args.dims c.args.nodes.now c.args.height c.args.e c.if-height-eq0.false)
 
-pub offset-bounds-nodes-place-in : goal.offset-bounds-nodes-place-in
-offset-bounds-nodes-place-in c =
-    let p : c.place-in.result < length c.args.nodes.now = subst (λ p. p < length c.args.nodes.now) (sym c.place-in.ensures) (node_sound _ c.args.height c.args.e c.if-height-eq0.false c.requires) in
+pub offset_bounds-nodes-place_in : goal.offset_bounds-nodes-place_in
+offset_bounds-nodes-place_in c =
+    let p : c.place_in.result < length c.args.nodes.now = subst (λ p. p < length c.args.nodes.now) (sym c.place_in.ensures) (node_sound _ c.args.height c.args.e c.if-height-eq0.false c.requires) in
     omega arith

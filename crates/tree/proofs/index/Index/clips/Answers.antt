@@ -8,13 +8,13 @@ use Rattle.tree.proofs.index.Index.clips.Goals as goal
 pub returns-then-out-self : goal.returns-then-out-self
 returns-then-out-self c = let x = c.args.self.now in listed_none x (rows_in (tree_in x)) c.args.out.now c.if-out-self.true
 
-pub overflow-add-self : goal.overflow-add-self
-overflow-add-self c = omega (arith, low c.args.self.now)
+pub overflow_add-self : goal.overflow_add-self
+overflow_add-self c = omega (arith, low c.args.self.now)
 
-pub copy-clips-requires : goal.copy-clips-requires
-copy-clips-requires c =
+pub copy_clips-requires : goal.copy_clips-requires
+copy_clips-requires c =
     let p = ask_clips c.args.self.now c.deref.result.now c.deref.ensures.value c.args.out.now c.if-out-self.false in
     record { within = p.0; room = p.1 }
 
 pub returns : goal.returns
-returns c = clips_done c.args.self.now c.deref.result.now c.deref.ensures.value c.args.out.now c.copy-clips.new.out c.copy-clips.result c.if-out-self.false c.copy-clips.ensures
+returns c = clips_done c.args.self.now c.deref.result.now c.deref.ensures.value c.args.out.now c.copy_clips.new.out c.copy_clips.result c.if-out-self.false c.copy_clips.ensures

@@ -7,18 +7,18 @@ use Rattle.tree.specs.Listing.{Listed, Ordered}
 use Rattle.tree.proofs.Listings.{listed_count, listed_rising}
 use Rattle.tree.proofs.index.Index.rising.Goals as goal
 
-pub order-clips-requires : goal.order-clips-requires
-order-clips-requires c =
+pub order_clips-requires : goal.order_clips-requires
+order_clips-requires c =
     let x = c.args.self.now in
-    let n = c.in-ok-n.n in
-    omega (arith, length-take (n - 0) c.clips.new.out, (listed_count x (rows_in (tree_in x)) c.args.out.now c.clips.new.out n c.in-ok-n.ensures).1)
+    let n = c.in_ok-n.n in
+    omega (arith, length-take (n - 0) c.clips.new.out, (listed_count x (rows_in (tree_in x)) c.args.out.now c.clips.new.out n c.in_ok-n.ensures).1)
 
 pub returns : goal.returns
 returns c =
     let x = c.args.self.now in
-    let n = c.in-ok-n.n in
+    let n = c.in_ok-n.n in
     let B = c.clips.new.out in
-    let S = c.order-clips.new.clips in
-    let z : c.in-ok-n.n - 0 ≡ c.in-ok-n.n = omega arith in
+    let S = c.order_clips.new.clips in
+    let z : c.in_ok-n.n - 0 ≡ c.in_ok-n.n = omega arith in
     subst (λ m. Listed x (rising (rows_in (tree_in x))) c.args.out.now (S ++ drop m B) (Some n)) (sym z)
-    (listed_rising x c.args.out.now B S n c.clips.auto.out c.in-ok-n.ensures (subst (λ m. Ordered (take m B) S) z c.order-clips.ensures))
+    (listed_rising x c.args.out.now B S n c.clips.auto.out c.in_ok-n.ensures (subst (λ m. Ordered (take m B) S) z c.order_clips.ensures))

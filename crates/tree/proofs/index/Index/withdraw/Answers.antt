@@ -17,8 +17,8 @@ returns-then-not-lists c =
     does_refused x (withdraws c.args.number (length c.args.worklist.now)) _
     (withdraw_missing (rows_in (tree_in x)) c.args.number (length c.args.worklist.now) c.if-number-eq0.false (sym c.if-not-lists.ensures))
 
-pub overflow-mul-self : goal.overflow-mul-self
-overflow-mul-self c = omega (arith, few c.args.self.now)
+pub overflow_mul-self : goal.overflow_mul-self
+overflow_mul-self c = omega (arith, few c.args.self.now)
 
 pub returns-then-worklist-self : goal.returns-then-worklist-self
 returns-then-worklist-self c =
@@ -26,14 +26,14 @@ returns-then-worklist-self c =
     does_refused x (withdraws c.args.number (length c.args.worklist.now)) _
     (withdraw_short (rows_in (tree_in x)) c.args.number (length c.args.worklist.now) c.if-number-eq0.false (sym c.if-not-lists.ensures) (omega (arith, c.if-worklist-self.true, (whole_of x).count)))
 
-pub withdraw-one-requires : goal.withdraw-one-requires
-withdraw-one-requires c =
+pub withdraw_one-requires : goal.withdraw_one-requires
+withdraw_one-requires c =
     let x = c.args.self.now in
     record { listed = sym c.if-not-lists.ensures; words = omega (arith, c.if-worklist-self.false, (whole_of x).count) }
 
 pub returns : goal.returns
 returns c =
     let x = c.args.self.now in
-    does_done x c.withdraw-one.new.self (withdraws c.args.number (length c.args.worklist.now))
+    does_done x c.withdraw_one.new.self (withdraws c.args.number (length c.args.worklist.now))
     (withdraw_fine (rows_in (tree_in x)) c.args.number (length c.args.worklist.now) c.if-number-eq0.false (sym c.if-not-lists.ensures) (omega (arith, c.if-worklist-self.false, (whole_of x).count)))
-    c.withdraw-one.ensures.stays c.withdraw-one.ensures.tree
+    c.withdraw_one.ensures.stays c.withdraw_one.ensures.tree
