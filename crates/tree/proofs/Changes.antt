@@ -1,12 +1,11 @@
 -- An index when a clip is entered or withdrawn.
-use Rattle.std.proofs.Common.{◌≡◌, ℕ, zero, suc, ◌+◌, ◌-◌, ◌*◌, ◌<◌, ◌≤◌, max, Bool, true, false, cond, not, ◌||◌, eqb, ltb, leb, List, [], ◌∷◌, ◌++◌, map, length, get_or, take, replicate, is_some, Some, None, Ok, Err, vec_items, Option, sym, refl, ap, ◌∙◌, subst, ap₂, ⊎_elim, add-one, arith}
+use Rattle.std.proofs.Common.{◌≡◌, ℕ, zero, suc, ◌+◌, ◌-◌, ◌*◌, ◌<◌, ◌≤◌, max, Bool, true, false, cond, not, ◌||◌, eqb, ltb, leb, List, [], ◌∷◌, ◌++◌, length, get_or, take, replicate, is_some, Some, None, Ok, Err, vec_items, Option, sym, refl, ap, ◌∙◌, subst, ap₂, ⊎_elim, add-one, arith}
 use native.Mathlib.Nat.{le-max_left, le-max_right}
 use Rattle.std.specs.Option.{option_map}
 use Rattle.std.specs.List.{AllByRecursion}
 use Rattle.std.proofs.ByRecursion.{All-weaker}
 use Rattle.std.proofs.lemmas.List.{get_or_append_left, get_or-append_right}
 use Rattle.std.proofs.lemmas.Bool.{cases_lt, false≢true, eq-eqb, ne_eqb, eqb-true, ltb-true, le-leb, lt-leb, le-ltb, lt-ltb}
-use Rattle.std.proofs.lemmas.Bool.Decides.{nat_tests}
 use Rattle.space.specs.Row.{Row, stored_row, stored_as}
 use Rattle.space.specs.Plans.{vector_fault, clip_fault}
 use Rattle.space.specs.declared.clip.StoredClip.{StoredClip}
@@ -18,10 +17,9 @@ use Rattle.rules.specs.Tree.{Tree, rows_in}
 use Rattle.rules.specs.Rows.{lists, without}
 use Rattle.rules.specs.Finds.{Once}
 use Rattle.rules.specs.Enter.{entered}
-use Rattle.rules.specs.Withdraw.{withdrawn}
 use Rattle.rules.specs.Refusals.{Refusal, refused_at, when, ◌else◌, clip_refusal, bad_letter, of_clip, of_enter, of_withdraw}
-use Rattle.rules.specs.Register.{Call, enters, withdraws, answer, ruled, unless}
-use Rattle.rules.specs.State.{standing, told, after}
+use Rattle.rules.specs.Register.{Call, ruled, unless}
+use Rattle.rules.specs.State.{standing, told}
 use Rattle.rules.proofs.Faults.{faults_refuse}
 use Rattle.rules.proofs.Answered.{clip_open}
 use Rattle.rules.proofs.Rows.{entered_rows}
@@ -32,8 +30,8 @@ use Rattle.tree.specs.declared.node.Node.{Node}
 use Rattle.tree.specs.declared.index.Index.{Index}
 use Rattle.tree.specs.Nodes.{spot, Lettered, tree_of}
 use Rattle.tree.specs.Leaving.{listed_in, EnteredClip}
-use Rattle.tree.specs.Standing.{Stands, rows_of, Withdrew, Whole}
-use Rattle.tree.specs.Seen.{plan_of, tree_in, seen_index, index_boxes}
+use Rattle.tree.specs.Standing.{rows_of, Withdrew, Whole}
+use Rattle.tree.specs.Seen.{plan_of, tree_in, seen_index}
 use Rattle.tree.specs.Calls.{stored_unless, stored_or, Stays, Does}
 use Rattle.tree.proofs.Standings.{entered_more, stands_entered}
 use Rattle.tree.proofs.Starts.{padded}

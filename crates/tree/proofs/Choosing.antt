@@ -1,7 +1,7 @@
 -- Laws of the choice of an entry.
-use Rattle.std.proofs.Common.{◌≡◌, ℕ, zero, suc, ◌+◌, ◌-◌, ◌<◌, ◌≤◌, Bool, true, false, cond, List, [], ◌∷◌, ◌++◌, map, length, get_or, take, drop, sym, refl, ap, ◌∙◌, subst, ap₂, add-one, arith}
+use Rattle.std.proofs.Common.{◌≡◌, ℕ, zero, suc, ◌+◌, ◌-◌, ◌<◌, Bool, true, false, cond, List, [], ◌∷◌, ◌++◌, length, get_or, sym, refl, ap, ◌∙◌, ap₂, add-one, arith}
 use Rattle.space.specs.Boxes.{area, common, join, point}
-use Rattle.rules.specs.Choice.{Score, less, first_least, commons, commons_but, growth, chosen}
+use Rattle.rules.specs.Choice.{Score, less, first_least, commons, commons_but, growth}
 
 pub commons_append : (b : List ℕ) (xs ys : List (List ℕ)) → commons b (xs ++ ys) ≡ commons b xs + commons b ys
 commons_append b [] ys = omega arith

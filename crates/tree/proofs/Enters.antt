@@ -1,20 +1,17 @@
 -- A clip entered at a box above the leaves: one of its entries has grown.
-use Rattle.std.proofs.Common.{◌≡◌, ℕ, zero, suc, ◌+◌, ◌-◌, ◌/◌, ◌<◌, ◌≤◌, Bool, true, false, cond, eqb, List, [], ◌∷◌, ◌++◌, map, length, get_or, take, drop, set, Some, None, Option, sym, refl, ap, ◌∙◌, subst, ap₂, arith, length-set}
+use Rattle.std.proofs.Common.{◌≡◌, ℕ, suc, ◌+◌, ◌<◌, ◌≤◌, Bool, true, false, cond, eqb, List, [], ◌∷◌, ◌++◌, map, length, get_or, take, set, Some, None, sym, refl, ap, ◌∙◌, subst, ap₂, arith}
 use Rattle.std.specs.List.{AllByRecursion}
-use Rattle.std.proofs.lemmas.List.{length-map, length-take, map-append, append-nil, get_or-map}
+use Rattle.std.proofs.lemmas.List.{length-take, map-append, append-nil, get_or-map}
 use Rattle.std.proofs.ByRecursion.{All-append, All-get_or}
-use Rattle.std.proofs.lemmas.Bool.{eqb-true, eq-eqb, ne_eqb, false≢true}
-use Rattle.space.specs.Boxes.{point}
-use Rattle.space.specs.Row.{Row}
-use Rattle.rules.specs.Tree.{Box, Entry, Tree, sets_of, boxed}
+use Rattle.std.proofs.lemmas.Bool.{eqb-true, eq-eqb, ne_eqb}
+use Rattle.rules.specs.Tree.{Box, Entry, sets_of}
 use Rattle.rules.specs.Choice.{chosen}
-use Rattle.rules.specs.Division.{alike, group, division}
-use Rattle.rules.specs.Enter.{fitted, enter_below, entered, extra, entries_at, rooted}
+use Rattle.rules.specs.Enter.{fitted, enter_below, extra}
 use Rattle.rules.proofs.Builds.{bare}
 use Rattle.space.specs.declared.clip.StoredClip.{StoredClip}
 use Rattle.tree.specs.declared.node.NodeEntry.{NodeEntry}
 use Rattle.tree.specs.declared.node.Node.{Node}
-use Rattle.tree.specs.Nodes.{no_node, no_clip, no_entry, spot, clip_in, place_in, least, node, inside, entry_of, one, total, times, Sound, Written, Fitted, held, enters, EnteredBelow}
+use Rattle.tree.specs.Nodes.{no_entry, spot, place_in, node, inside, entry_of, one, total, times, Sound, Written, Fitted, held, enters, EnteredBelow}
 use Rattle.space.specs.Row.{stored_row}
 use Rattle.tree.proofs.Frame.{one_self, times_spot, entry_spot, sound_spot}
 use Rattle.tree.proofs.Fits.{Apart, settled_one}

@@ -1,19 +1,14 @@
 -- The steps of a recursion over the height, which is more than 0: what each asks, and what it leaves.
-use Rattle.std.proofs.Common.{◌≡◌, ℕ, zero, suc, ◌+◌, ◌-◌, ◌<◌, ◌≤◌, Bool, true, false, cond, eqb, List, [], ◌∷◌, ◌++◌, map, length, get_or, take, sym, refl, ap, ◌∙◌, subst, ap₂, arith}
+use Rattle.std.proofs.Common.{◌≡◌, ℕ, zero, suc, ◌+◌, ◌-◌, ◌<◌, ◌≤◌, Bool, true, cond, eqb, List, [], ◌∷◌, ◌++◌, map, length, get_or, take, sym, refl, ap, subst, arith}
 use Rattle.std.specs.List.{AllByRecursion}
 use Rattle.std.proofs.lemmas.Bool.{eq-eqb, ne_eqb}
-use Rattle.space.specs.Boxes.{point}
-use Rattle.space.specs.Row.{Row}
-use Rattle.rules.specs.Tree.{Box, Entry, Tree, sets_of, boxed}
+use Rattle.rules.specs.Tree.{sets_of}
 use Rattle.rules.specs.Choice.{chosen}
-use Rattle.rules.specs.Division.{alike, group, division}
-use Rattle.rules.specs.Enter.{fitted, enter_below, entered, extra, entries_at, rooted}
-use Rattle.rules.proofs.Builds.{bare}
 use Rattle.space.specs.declared.clip.StoredClip.{StoredClip}
 use Rattle.tree.specs.declared.node.NodeEntry.{NodeEntry}
 use Rattle.tree.specs.declared.node.NodeEntry.TheVariants as kind
 use Rattle.tree.specs.declared.node.Node.{Node}
-use Rattle.tree.specs.Nodes.{no_node, no_clip, no_entry, spot, clip_in, place_in, least, node, inside, entry_of, one, total, times, Sound, Lettered, Written, Fitted, held, EnteredBelow, place_of}
+use Rattle.tree.specs.Nodes.{no_entry, spot, place_in, least, node, inside, entry_of, times, Sound, Lettered, Written, Fitted, held, EnteredBelow, place_of}
 use Rattle.tree.proofs.Lists.{map_map}
 use Rattle.tree.proofs.Frame.{times_spot, spot_sound}
 use Rattle.tree.proofs.Fits.{Apart}

@@ -1,18 +1,12 @@
 -- A clip entered at the root.
-use Rattle.std.proofs.Common.{◌≡◌, ℕ, zero, suc, ◌+◌, ◌-◌, ◌<◌, ◌≤◌, Bool, true, false, cond, eqb, List, [], ◌∷◌, ◌++◌, map, length, get_or, take, Some, None, Option, sym, refl, ap, ◌∙◌, subst, ap₂, arith}
+use Rattle.std.proofs.Common.{◌≡◌, ℕ, suc, ◌+◌, ◌<◌, ◌≤◌, true, false, cond, eqb, List, [], ◌∷◌, length, get_or, Some, None, sym, ap, ◌∙◌, ap₂, arith}
 use Rattle.std.specs.List.{AllByRecursion}
 use Rattle.std.proofs.lemmas.Bool.{eq-eqb, ne_eqb}
-use Rattle.space.specs.Row.{Row}
-use Rattle.rules.specs.Tree.{Box, Entry, Tree, sets_of, boxed}
-use Rattle.rules.specs.Choice.{chosen}
-use Rattle.rules.specs.Division.{alike, group, division}
-use Rattle.rules.specs.Enter.{fitted, enter_below, entered, extra, entries_at, rooted}
-use Rattle.rules.proofs.Builds.{bare}
+use Rattle.rules.specs.Tree.{Box, Entry, Tree}
+use Rattle.rules.specs.Enter.{rooted}
 use Rattle.space.specs.declared.clip.StoredClip.{StoredClip}
-use Rattle.tree.specs.declared.node.NodeEntry.{NodeEntry}
 use Rattle.tree.specs.declared.node.Node.{Node}
-use Rattle.tree.specs.Nodes.{no_node, no_clip, no_entry, spot, clip_in, place_in, least, node, inside, entry_of, one, total, times, Sound, Written, held, enters, EnteredBelow, tree_of, EnteredRoot}
-use Rattle.space.specs.Row.{stored_row}
+use Rattle.tree.specs.Nodes.{spot, entry_of, total, times, Sound, Written, held, enters, EnteredBelow, EnteredRoot}
 use Rattle.tree.proofs.Frame.{one_self}
 use Rattle.tree.proofs.Writes.{put_length, put_entry, put_times, put_sound}
 use Rattle.tree.proofs.Siblings.{held_more}

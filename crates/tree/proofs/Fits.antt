@@ -1,25 +1,20 @@
 -- Entries settled in one node, or divided over two.
-use Rattle.std.proofs.Common.{◌≡◌, ℕ, zero, suc, ◌+◌, ◌-◌, ◌/◌, ◌<◌, ◌≤◌, Bool, true, false, cond, eqb, List, [], ◌∷◌, ◌++◌, map, length, get_or, take, drop, set, Some, None, Option, sym, refl, ap, ◌∙◌, subst, ap₂, arith, length-set}
+use Rattle.std.proofs.Common.{◌≡◌, ℕ, zero, suc, ◌+◌, ◌/◌, ◌<◌, ◌≤◌, Bool, true, false, cond, List, [], ◌∷◌, map, length, Some, sym, refl, ap, ◌∙◌, subst, arith}
 use Rattle.std.specs.List.{AllByRecursion}
 use Rattle.std.proofs.lemmas.List.{length-map}
-use Rattle.std.proofs.lemmas.Bool.{eqb-true, eq-eqb, cases_eq, ne_eqb, false≢true}
-use Rattle.space.specs.Boxes.{around, has}
-use Rattle.space.specs.Row.{Row}
-use Rattle.rules.specs.Tree.{Box, Entry, Tree, sets_of, boxed}
-use Rattle.rules.specs.Choice.{chosen}
+use Rattle.std.proofs.lemmas.Bool.{false≢true}
+use Rattle.space.specs.Boxes.{has}
+use Rattle.rules.specs.Tree.{sets_of, boxed}
 use Rattle.rules.specs.Division.{alike, group, division}
-use Rattle.rules.specs.Enter.{parted, fitted, enter_below, entered, extra, entries_at, rooted}
+use Rattle.rules.specs.Enter.{parted}
 use Rattle.rules.proofs.Groups.{Code, division_code, group_few, all_group}
 use Rattle.tree.proofs.Parts.{group_map}
-use Rattle.rules.proofs.Builds.{bare, fitted_few, fitted_many}
-use Rattle.space.specs.declared.clip.StoredClip.{StoredClip}
+use Rattle.rules.proofs.Builds.{fitted_few, fitted_many}
 use Rattle.tree.specs.declared.node.NodeEntry.{NodeEntry}
 use Rattle.tree.specs.declared.node.Node.{Node}
-use Rattle.tree.specs.Nodes.{no_node, no_entry, spot, clip_in, place_in, least, node, inside, entry_of, one, total, times, Sound, Written, boxes_of, Fitted, divided}
-use Rattle.space.specs.Row.{stored_row}
-use Rattle.tree.proofs.Lists.{map_map}
+use Rattle.tree.specs.Nodes.{spot, least, entry_of, one, total, times, Sound, Written, Fitted, divided}
 use Rattle.tree.proofs.Frame.{one_self, Agree, Agrees, entries_same, totals_same, sounds_same, entry_frame, times_frame, sound_frame}
-use Rattle.tree.proofs.Writes.{put_length, put_other, put_at, put_agrees, put_entry, put_times, put_sound}
+use Rattle.tree.proofs.Writes.{put_length, put_other, put_entry, put_times, put_sound}
 
 pub divided_is : (d : ℕ) (bs : List (List ℕ)) → divided d bs ≡ division d bs
 unfolding divided

@@ -1,16 +1,13 @@
 -- Whether a start is fit, and what it makes.
-use Rattle.std.proofs.Common.{◌≡◌, ℕ, zero, suc, ◌+◌, ◌-◌, ◌/◌, ◌<◌, ◌≤◌, max, Bool, true, false, cond, not, ◌&&◌, eqb, ltb, leb, ◌⊎◌, List, [], ◌∷◌, ◌++◌, map, length, get_or, take, drop, set, replicate, Some, None, Ok, Err, Option, sym, refl, ap, ◌∙◌, subst, ⊎_elim, arith}
-use native.Mathlib.Nat.{max_comm, max-le}
+use Rattle.std.proofs.Common.{◌≡◌, ℕ, ◌/◌, ◌<◌, ◌≤◌, max, true, false, not, ◌&&◌, ltb, leb, ◌⊎◌, List, Some, None, Ok, Err, Option, sym, ap, ◌∙◌, ⊎_elim, arith}
+use native.Mathlib.Nat.{max_comm}
 use Rattle.std.specs.Option.{option_map}
-use Rattle.std.specs.List.{AllByRecursion}
-use Rattle.std.proofs.lemmas.Bool.{le-leb, lt-leb, lt-ltb, le-ltb, and_parts, leb-true}
-use Rattle.space.specs.Boxes.{dimensions}
+use Rattle.std.proofs.lemmas.Bool.{le-leb, lt-leb, lt-ltb, le-ltb}
 use Rattle.space.specs.Plans.{plan_fault, unless_fault}
 use Rattle.space.specs.declared.plan.PlanFault.{PlanFault}
 use Rattle.space.proofs.Faults.{fault_none, fault_some}
-use Rattle.rules.specs.Refusals.{Refusal, refused_at, when, ◌else◌, plan_refusal, of_sizes, of_fit, bad_size, when_at}
+use Rattle.rules.specs.Refusals.{Refusal, refused_at, when, ◌else◌, plan_refusal, of_fit}
 use Rattle.rules.proofs.Faults.{faults_refuse}
-use Rattle.rules.proofs.Refused.{else_none, when_none, when_at_none}
 
 -- ---- the answers of `fit`
 module _ (plan : List ℕ) (capacity boxes : ℕ) where

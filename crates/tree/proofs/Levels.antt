@@ -1,9 +1,7 @@
 -- What an entry means, by its height.
-use Rattle.std.proofs.Common.{◌≡◌, ℕ, zero, suc, ◌+◌, ◌-◌, ◌<◌, ◌≤◌, List, [], ◌∷◌, ◌++◌, map, length, get_or, take, drop, sym, refl, ap, ◌∙◌, subst, arith}
+use Rattle.std.proofs.Common.{◌≡◌, ℕ, zero, suc, ◌<◌, List, length, take, refl, arith}
 use Rattle.space.specs.Boxes.{point}
-use Rattle.space.specs.Row.{Row}
-use Rattle.rules.specs.Tree.{Box, Entry, sets_of}
-use Rattle.space.specs.declared.clip.StoredClip.{StoredClip}
+use Rattle.rules.specs.Tree.{sets_of}
 use Rattle.tree.specs.declared.node.NodeEntry.{NodeEntry}
 use Rattle.tree.specs.declared.node.Node.{Node}
 use Rattle.tree.specs.Nodes.{node, clip_in, place_in, entry_of, Sound, Lettered}

@@ -1,17 +1,17 @@
 -- Where a number is; the entries of a node but one, or but those of a number.
-use Rattle.std.proofs.Common.{◌≡◌, ℕ, zero, suc, ◌+◌, ◌-◌, ◌*◌, ◌/◌, ◌%◌, ◌^◌, ◌<◌, ◌≤◌, Bool, true, false, cond, ◌||◌, eqb, List, [], ◌∷◌, ◌++◌, map, length, get_or, take, drop, set, sym, refl, ap, ◌∙◌, subst, ap₂, pow-suc, div-one, arith}
+use Rattle.std.proofs.Common.{◌≡◌, ℕ, zero, suc, ◌+◌, ◌-◌, ◌*◌, ◌/◌, ◌%◌, ◌^◌, ◌<◌, ◌≤◌, Bool, true, false, cond, ◌||◌, eqb, List, [], ◌∷◌, ◌++◌, map, length, get_or, take, drop, set, sym, refl, ap, ◌∙◌, pow-suc, div-one, arith}
 use Rattle.std.specs.List.{AllByRecursion}
 use Rattle.std.proofs.lemmas.List.{drop_more, drop_all, take_more_set, append_assoc, append-nil}
-use Rattle.std.proofs.lemmas.Bool.{or_right, or_left, or_from, eq-eqb, ne_eqb}
+use Rattle.std.proofs.lemmas.Bool.{or_right, or_left, or_from, ne_eqb}
 use Rattle.space.specs.Boxes.{has}
 use Rattle.rules.specs.Division.{alike, group}
 use Rattle.space.specs.Row.{Row}
-use Rattle.rules.specs.Tree.{Box, Entry, rows_below}
+use Rattle.rules.specs.Tree.{Entry, rows_below}
 use Rattle.rules.specs.Rows.{lists, without}
 use Rattle.rules.specs.Withdraw.{holder}
 use Rattle.tree.specs.declared.node.NodeEntry.{NodeEntry}
 use Rattle.tree.specs.declared.node.Node.{Node}
-use Rattle.tree.specs.Nodes.{no_entry, node, inside, clip_in, place_in, entry_of, Sound}
+use Rattle.tree.specs.Nodes.{no_entry, node, inside, clip_in, place_in, entry_of}
 use Rattle.space.specs.Row.{stored_row}
 use Rattle.tree.specs.Leaving.{rows_of, listed_in, first_of, kept}
 

@@ -1,10 +1,10 @@
 -- Laws of the groups of a division.
-use Rattle.std.proofs.Common.{◌≡◌, ℕ, zero, suc, ◌+◌, ◌-◌, ◌*◌, ◌/◌, ◌%◌, ◌^◌, ◌<◌, ◌≤◌, Bool, true, false, cond, ◌&&◌, List, [], ◌∷◌, ◌++◌, map, length, get_or, take, drop, set, replicate, sym, refl, ap, ◌∙◌, subst, ap₂, div-one, add-one, arith}
+use Rattle.std.proofs.Common.{◌≡◌, ℕ, ◌+◌, ◌/◌, ◌^◌, ◌<◌, ◌≤◌, Bool, true, false, cond, ◌&&◌, List, [], ◌∷◌, ◌++◌, map, length, get_or, take, drop, set, sym, refl, ap, ◌∙◌, ap₂, div-one, add-one}
 use Rattle.std.proofs.lemmas.List.{append-nil, drop_more, drop_all, take_more_set, append_assoc}
 use Rattle.std.proofs.lemmas.Nat.{shr-shr}
-use Rattle.space.specs.Boxes.{join, joined, around, has}
+use Rattle.space.specs.Boxes.{join, joined, has}
 use Rattle.rules.specs.Choice.{Score, less}
-use Rattle.rules.specs.Division.{alike, group, divides, parting, best_below, division}
+use Rattle.rules.specs.Division.{alike, group, divides, parting, best_below}
 
 cond_map : {A B : Type 0} (f : A → B) (t : Bool) (x y : A) → f (cond t x y) ≡ cond t (f x) (f y)
 cond_map f true x y = refl

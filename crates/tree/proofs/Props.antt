@@ -1,5 +1,5 @@
 -- What an index keeps has one proof at most, so that it can be taken out of its ghost field.
-use Rattle.std.proofs.Common.{◌≡◌, ℕ, zero, suc, ◌+◌, ◌<◌, ◌≤◌, false, List, [], ◌∷◌, map, length, get_or, is_some, refl}
+use Rattle.std.proofs.Common.{◌≡◌, ℕ, zero, suc, ◌≤◌, false, List, [], ◌∷◌, map, length, is_some, refl}
 use mathlib.Core.HLevel.{⊥_prop}
 use mathlib.Core.Bool.{Bool-set}
 use Rattle.space.specs.Plans.{vector_fault}
@@ -11,12 +11,11 @@ use Rattle.std.specs.List.{AllByRecursion}
 use Rattle.space.specs.Row.{Row}
 use Rattle.space.specs.Boxes.{around}
 use Rattle.rules.specs.Tree.{Entry, Tree, sets_of}
-use Rattle.rules.specs.Build.{Smallest, Below, Build}
+use Rattle.rules.specs.Build.{Below, Build}
 use Rattle.rules.specs.Finds.{Once}
 use Rattle.tree.specs.declared.node.NodeEntry.{NodeEntry}
 use Rattle.tree.specs.declared.node.Node.{Node}
 use Rattle.tree.specs.Nodes.{node, inside, place_in, Sound}
-use Rattle.tree.specs.Leaving.{EachOnce}
 use Rattle.tree.specs.Standing.{Stands, Whole}
 
 all_prop : {X : Type 0} (P : X → Type 0) → ((x : X) → IsProp (P x)) → (xs : List X) → IsProp (AllByRecursion P xs)

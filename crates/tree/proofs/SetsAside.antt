@@ -1,16 +1,14 @@
 -- The tree of an entry moved out, and what stands at an entry above height 0.
-use Rattle.std.proofs.Common.{◌≡◌, ℕ, zero, suc, ◌+◌, ◌-◌, ◌*◌, ◌<◌, ◌≤◌, Bool, true, false, cond, not, List, [], ◌∷◌, ◌++◌, map, length, get_or, take, drop, set, sym, refl, ap, ◌∙◌, subst, ap₂, add-one, arith, length-set}
+use Rattle.std.proofs.Common.{◌≡◌, ℕ, zero, suc, ◌+◌, ◌-◌, ◌*◌, ◌<◌, ◌≤◌, Bool, true, false, not, List, [], ◌∷◌, ◌++◌, map, length, get_or, take, drop, set, sym, refl, ap, ◌∙◌, subst, add-one, arith, length-set}
 use Rattle.std.specs.List.{flat_map, AllByRecursion}
 use Rattle.std.proofs.lemmas.List.{take_more, drop-set, take_all, length-append, length-take, flat_map_more, append-nil}
-use Rattle.space.specs.Row.{Row}
-use Rattle.rules.specs.Tree.{Box, Entry, rows_below}
+use Rattle.rules.specs.Tree.{rows_below}
 use Rattle.rules.specs.Rows.{lists}
 use Rattle.space.specs.declared.clip.StoredClip.{StoredClip}
 use Rattle.tree.specs.declared.node.NodeEntry.{NodeEntry}
 use Rattle.tree.specs.declared.node.Node.{Node}
 use Rattle.tree.specs.Nodes.{no_entry, node, inside, clip_in, place_in, entry_of, Sound, Lettered, one, total, times}
-use Rattle.space.specs.Row.{stored_row}
-use Rattle.tree.specs.Leaving.{rows_of, listed_in, asides, clips_in, count_in, Within, SetAside, stock}
+use Rattle.tree.specs.Leaving.{listed_in, asides, clips_in, count_in, Within, SetAside, stock}
 use Rattle.tree.proofs.Siblings.{total_append, total_take_le}
 use Rattle.tree.proofs.Looks.{lists_none, lists_some, listed_up}
 

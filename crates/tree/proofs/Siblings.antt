@@ -1,23 +1,13 @@
 -- A clip entered at a leaf, and at a box above.
-use Rattle.std.proofs.Common.{◌≡◌, ℕ, zero, suc, ◌+◌, ◌-◌, ◌/◌, ◌<◌, ◌≤◌, Bool, true, false, cond, eqb, List, [], ◌∷◌, ◌++◌, map, length, get_or, take, drop, set, Some, None, Option, sym, refl, ap, ◌∙◌, subst, ap₂, add-one, arith, length-set}
+use Rattle.std.proofs.Common.{◌≡◌, ℕ, zero, suc, ◌+◌, ◌<◌, ◌≤◌, Bool, true, false, cond, List, [], ◌∷◌, ◌++◌, map, length, get_or, take, set, sym, refl, ap, ◌∙◌, subst, ap₂, add-one, arith}
 use Rattle.std.specs.List.{AllByRecursion}
-use Rattle.std.proofs.lemmas.List.{length-map, map-append, take_more, get_or-map}
-use Rattle.std.proofs.ByRecursion.{All-append, All-get_or}
-use Rattle.std.proofs.lemmas.Bool.{eqb-true, eq-eqb, cases_eq, ne_eqb, false≢true}
-use Rattle.space.specs.Boxes.{around, has, point}
-use Rattle.space.specs.Row.{Row}
-use Rattle.rules.specs.Tree.{Box, Entry, Tree, sets_of, boxed}
-use Rattle.rules.specs.Choice.{chosen}
-use Rattle.rules.specs.Division.{alike, group, division}
-use Rattle.rules.specs.Enter.{fitted, enter_below, entered, extra, entries_at, rooted}
-use Rattle.rules.proofs.Builds.{bare}
+use Rattle.std.proofs.lemmas.List.{map-append, take_more}
+use Rattle.rules.specs.Enter.{fitted}
 use Rattle.space.specs.declared.clip.StoredClip.{StoredClip}
 use Rattle.tree.specs.declared.node.NodeEntry.{NodeEntry}
 use Rattle.tree.specs.declared.node.NodeEntry.TheVariants as kind
 use Rattle.tree.specs.declared.node.Node.{Node}
-use Rattle.tree.specs.Nodes.{no_node, no_clip, no_entry, spot, clip_in, place_in, least, node, inside, entry_of, one, total, times, Sound, Written, boxes_of, Fitted, held, enters, EnteredBelow}
-use Rattle.space.specs.Row.{stored_row}
-use Rattle.tree.proofs.Lists.{map_map}
+use Rattle.tree.specs.Nodes.{no_entry, spot, node, inside, entry_of, one, total, times, Sound, Fitted, held, enters, EnteredBelow}
 use Rattle.tree.proofs.Frame.{one_self, Agree, Agrees, entries_same, totals_same, sounds_same, entry_frame, times_frame, sound_frame}
 use Rattle.tree.proofs.Fits.{Apart}
 

@@ -1,14 +1,13 @@
 -- The stack of free places, when a clip is entered.
-use Rattle.std.proofs.Common.{◌≡◌, ℕ, zero, suc, ◌+◌, ◌-◌, ◌<◌, ◌≤◌, Bool, true, false, cond, ltb, List, [], ◌∷◌, ◌++◌, length, get_or, take, drop, sym, refl, ap, ◌∙◌, subst, ap₂, ⊎_elim, arith}
-use Rattle.std.proofs.lemmas.List.{take-append-drop, length-drop, take_rest, take_all}
+use Rattle.std.proofs.Common.{◌≡◌, ℕ, zero, suc, ◌+◌, ◌<◌, ◌≤◌, Bool, true, false, cond, ltb, List, [], ◌∷◌, length, get_or, take, drop, sym, ap, ◌∙◌, ⊎_elim, arith}
+use Rattle.std.proofs.lemmas.List.{take-append-drop}
 use Rattle.std.proofs.lemmas.Bool.{cases_lt, le-ltb}
 use Rattle.space.specs.declared.clip.StoredClip.{StoredClip}
-use Rattle.tree.specs.declared.node.NodeEntry.{NodeEntry}
 use Rattle.tree.specs.declared.node.Node.{Node}
-use Rattle.tree.specs.Nodes.{spot, Sound, one, total, times, held, EnteredRoot}
+use Rattle.tree.specs.Nodes.{spot, one, total, times, held, EnteredRoot}
 use Rattle.tree.specs.Leaving.{stock, EachOnce, EnteredClip}
 use Rattle.tree.proofs.Frame.{one_self}
-use Rattle.tree.proofs.Siblings.{total_append, total_at, total_take_le}
+use Rattle.tree.proofs.Siblings.{total_append, total_at}
 
 drop_add : {E : Type 0} (t u : ℕ) (F : List E) → drop u (drop t F) ≡ drop (t + u) F
 drop_add zero u F = let e : 0 + u ≡ u = omega arith in ap (λ n. drop n F) (sym e)

@@ -1,5 +1,5 @@
 -- A tree in its table, when clips are entered.
-use Rattle.std.proofs.Common.{◌≡◌, ℕ, zero, suc, ◌+◌, ◌*◌, ◌/◌, ◌%◌, ◌^◌, ◌<◌, ◌≤◌, max, List, [], ◌∷◌, ◌++◌, map, length, get_or, take, sym, refl, ap, ◌∙◌, subst, ap₂, add-one, arith}
+use Rattle.std.proofs.Common.{◌≡◌, ℕ, zero, suc, ◌+◌, ◌/◌, ◌%◌, ◌^◌, ◌<◌, ◌≤◌, List, [], ◌∷◌, ◌++◌, map, length, get_or, take, sym, refl, ap, ◌∙◌, subst, ap₂, arith}
 use Rattle.std.proofs.lemmas.List.{map_push, take_more}
 use Rattle.space.specs.Row.{Row, stored_row, stored_rows}
 use Rattle.space.specs.declared.clip.StoredClip.{StoredClip}
@@ -10,8 +10,8 @@ use Rattle.rules.specs.Enter.{entered, entered_all}
 use Rattle.rules.proofs.Builds.{entered_build}
 use Rattle.rules.proofs.Rows.{entered_rows}
 use Rattle.tree.specs.declared.node.Node.{Node}
-use Rattle.tree.specs.Nodes.{spot, Sound, Lettered, tree_of}
-use Rattle.tree.specs.Leaving.{letters_of, clip_by, keyed, EachOnce, EnteredClip}
+use Rattle.tree.specs.Nodes.{Lettered, tree_of}
+use Rattle.tree.specs.Leaving.{letters_of, clip_by, keyed, EnteredClip}
 use Rattle.tree.specs.Standing.{Stands, rows_of, EnteredAgain}
 use Rattle.tree.proofs.Tallies.{used_boxes, room_left}
 

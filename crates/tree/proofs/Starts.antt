@@ -1,5 +1,5 @@
 -- An index as it is started.
-use Rattle.std.proofs.Common.{◌≡◌, ℕ, zero, suc, ◌+◌, ◌-◌, ◌/◌, ◌<◌, ◌≤◌, max, Bool, true, false, cond, not, ◌&&◌, eqb, ltb, leb, List, [], ◌∷◌, ◌++◌, map, length, get_or, take, drop, replicate, is_some, Some, None, vec_items, vec_len, Option, sym, refl, ap, ◌∙◌, subst, ap₂, subst₂, arith}
+use Rattle.std.proofs.Common.{◌≡◌, ℕ, suc, ◌+◌, ◌-◌, ◌/◌, ◌<◌, ◌≤◌, max, Bool, true, false, cond, not, ◌&&◌, ltb, leb, List, [], ◌∷◌, ◌++◌, length, get_or, take, replicate, is_some, Some, None, vec_items, vec_len, Option, sym, refl, ap, ◌∙◌, subst, ap₂, subst₂, arith}
 use Rattle.std.specs.Option.{option_map}
 use Rattle.std.specs.List.{AllByRecursion}
 use Rattle.std.specs.Vec.{with_items}
@@ -9,18 +9,18 @@ use Rattle.std.proofs.lemmas.Bool.Decides.{nat_tests}
 use Rattle.space.specs.Boxes.{dimensions}
 use Rattle.space.specs.Plans.{plan_fault, vector_fault}
 use Rattle.space.specs.declared.plan.PlanFault.{PlanFault}
-use Rattle.rules.specs.Refusals.{plan_refusal, when, when_at, ◌else◌, bad_size, of_sizes, of_fit}
-use Rattle.rules.specs.Tree.{Tree, rows_in, boxed, empty}
+use Rattle.rules.specs.Refusals.{plan_refusal, when, bad_size, of_sizes, of_fit}
+use Rattle.rules.specs.Tree.{Tree, rows_in, empty}
 use Rattle.rules.specs.Build.{Build}
-use Rattle.rules.specs.State.{Seen, standing}
+use Rattle.rules.specs.State.{standing}
 use Rattle.rules.proofs.Builds.{empty_build}
 use Rattle.rules.proofs.Faults.{faults_refuse}
 use Rattle.rules.proofs.Refused.{some_none, else_none, when_none, when_at_none}
 use Rattle.tree.specs.declared.node.Node.{Node}
 use Rattle.tree.specs.declared.table.Table.{Table}
-use Rattle.tree.specs.Nodes.{spot, one, total, Sound, tree_of, Written}
+use Rattle.tree.specs.Nodes.{one, total, tree_of, Written}
 use Rattle.tree.specs.Leaving.{stock, EachOnce}
-use Rattle.tree.specs.Standing.{reserve, Stands, Whole}
+use Rattle.tree.specs.Standing.{reserve, Whole}
 use Rattle.tree.specs.Tables.{table_boxes}
 use Rattle.tree.proofs.Writes.{put_length, put_entry, put_times, put_sound}
 

@@ -1,11 +1,11 @@
 -- How many boxes a tree has: each of its places once.
-use Rattle.std.proofs.Common.{◌≡◌, ℕ, zero, suc, ◌+◌, ◌-◌, ◌*◌, ◌/◌, ◌^◌, ◌<◌, ◌≤◌, max, Bool, true, false, cond, eqb, ltb, List, [], ◌∷◌, ◌++◌, map, length, get_or, take, drop, sym, refl, ap, ◌∙◌, subst, ap₂, ⊎_elim, suc-le-suc, zero-le, arith, lit<}
+use Rattle.std.proofs.Common.{◌≡◌, ℕ, zero, suc, ◌+◌, ◌*◌, ◌/◌, ◌^◌, ◌<◌, ◌≤◌, max, cond, ltb, List, [], ◌∷◌, map, length, drop, sym, refl, ap, ◌∙◌, ap₂, ⊎_elim, suc-le-suc, zero-le, arith, lit<}
 use native.Mathlib.Nat.{le-max_left, le-max_right, max-le, pow-le-pow_right}
 use Rattle.std.specs.List.{AllByRecursion}
 use Rattle.std.proofs.lemmas.List.{length-drop}
 use Rattle.std.proofs.ByRecursion.{All-from_get_or}
 use Rattle.std.proofs.lemmas.Bool.{cases_lt, eq-eqb, ne_eqb, lt-ltb}
-use Rattle.rules.specs.Tree.{Box, Entry, Tree, rows_in, boxes_from, boxes_in}
+use Rattle.rules.specs.Tree.{Entry, Tree, rows_in, boxes_from, boxes_in}
 use Rattle.rules.specs.Build.{Build}
 use Rattle.rules.proofs.Sizes.{few_boxes, low_tree}
 use Rattle.tree.specs.declared.node.NodeEntry.{NodeEntry}

@@ -1,7 +1,7 @@
 -- A clip withdrawn from a tree in its table: taken out, the clips set aside put in order, and entered again.
-use Rattle.std.proofs.Common.{◌≡◌, ℕ, zero, suc, ◌+◌, ◌*◌, ◌/◌, ◌^◌, ◌<◌, ◌≤◌, Bool, true, cond, ltb, List, [], ◌∷◌, ◌++◌, map, length, sym, refl, ap, ◌∙◌, subst, ap₂, arith}
+use Rattle.std.proofs.Common.{◌≡◌, ℕ, zero, suc, ◌+◌, ◌*◌, ◌^◌, ◌<◌, ◌≤◌, true, cond, ltb, List, [], ◌++◌, length, sym, refl, ap, ◌∙◌, subst, ap₂, arith}
 use Rattle.std.proofs.lemmas.List.{length-append, length-map, length_push}
-use Rattle.space.specs.Row.{Row, stored_row, stored_rows}
+use Rattle.space.specs.Row.{stored_row, stored_rows}
 use Rattle.ranked.specs.Same.{Same}
 use Rattle.ranked.proofs.Sames.{length_same}
 use Rattle.rules.specs.Tree.{Tree, rows_in}
@@ -9,16 +9,14 @@ use Rattle.rules.specs.Build.{Build, fewest}
 use Rattle.rules.specs.Rows.{lists, without, rising}
 use Rattle.rules.specs.Finds.{Once}
 use Rattle.rules.specs.Enter.{entered_all}
-use Rattle.rules.specs.Withdraw.{withdrawn}
 use Rattle.rules.specs.LawsWithdraw.{left_in, aside_in}
 use Rattle.rules.proofs.Times.{times_append, times_same, listed_times, length_without, times_without, single_once, once_single}
 use Rattle.rules.proofs.Withdrawing.{withdrawing_leaves}
 use Rattle.tree.specs.declared.node.Node.{Node}
-use Rattle.tree.specs.Nodes.{node, inside, spot, entry_of, times, Sound, tree_of}
-use Rattle.tree.specs.Leaving.{asides, keyed, InOrder, clips_in, count_in, listed_in, stock, EachOnce, WithdrawnRoot}
+use Rattle.tree.specs.Nodes.{node, inside, spot, entry_of, tree_of}
+use Rattle.tree.specs.Leaving.{asides, InOrder, clips_in, count_in, listed_in, WithdrawnRoot}
 use Rattle.tree.specs.Standing.{Stands, rows_of, EnteredAgain, Withdrew}
 use Rattle.tree.proofs.Tallies.{used_count, half_less}
-use Rattle.tree.proofs.Stacks.{ask_once}
 use Rattle.tree.proofs.Withdraws.{clips_rows}
 
 -- ---- what the rules' laws say of a tree of the build

@@ -1,19 +1,18 @@
 -- The steps of a withdrawal at a height that is more than 0, as the code has it: what each asks, and what it leaves.
-use Rattle.std.proofs.Common.{◌≡◌, ℕ, zero, suc, ◌+◌, ◌-◌, ◌*◌, ◌<◌, ◌≤◌, Bool, true, false, cond, ◌||◌, List, [], ◌∷◌, ◌++◌, map, length, get_or, take, drop, set, sym, refl, ap, ◌∙◌, subst, ap₂, arith}
+use Rattle.std.proofs.Common.{◌≡◌, ℕ, zero, suc, ◌+◌, ◌-◌, ◌*◌, ◌<◌, ◌≤◌, Bool, true, false, cond, ◌||◌, List, [], ◌∷◌, map, length, get_or, sym, refl, ap, ◌∙◌, subst, arith}
 use Rattle.std.specs.List.{AllByRecursion}
 use Rattle.std.proofs.lemmas.Bool.{false≢true}
-use Rattle.space.specs.Row.{Row}
-use Rattle.rules.specs.Tree.{Box, Entry, rows_below}
+use Rattle.rules.specs.Tree.{rows_below}
 use Rattle.rules.specs.Rows.{lists}
 use Rattle.rules.specs.Withdraw.{holder}
 use Rattle.tree.specs.declared.node.NodeEntry.{NodeEntry}
 use Rattle.tree.specs.declared.node.Node.{Node}
-use Rattle.tree.specs.Nodes.{no_entry, spot, node, inside, place_in, entry_of, Sound, one, total, times, held, Written}
+use Rattle.tree.specs.Nodes.{no_entry, spot, node, inside, place_in, entry_of, Sound, times, Written}
 use Rattle.tree.specs.Leaving.{rows_of, listed_in, first_of, kept, clips_in, count_in, Within, SetAside, WithdrawnBelow}
 use Rattle.tree.proofs.Looks.{holder_first, rows_first, lists_append}
 use Rattle.tree.proofs.EntersAt.{sound_parts}
 use Rattle.tree.proofs.Withdraws.{leaf_taken}
-use Rattle.tree.proofs.WithdrawsUp.{but, child, child_apart, child_clips, child_count, child_sound, own_inside, in_m, few_m, child_in_m, keep_sound, out_sound, child_within, child_room, taken_keep, taken_out}
+use Rattle.tree.proofs.WithdrawsUp.{but, child_apart, child_clips, child_count, child_sound, own_inside, in_m, few_m, child_in_m, keep_sound, out_sound, child_within, child_room, taken_keep, taken_out}
 
 down : (g : ℕ) → g ≡ suc g - 1
 down g = omega arith

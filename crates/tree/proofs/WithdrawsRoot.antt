@@ -1,16 +1,15 @@
 -- A number taken out of a tree at its root.
-use Rattle.std.proofs.Common.{◌≡◌, ℕ, zero, suc, ◌+◌, ◌-◌, ◌*◌, ◌<◌, ◌≤◌, List, [], ◌∷◌, ◌++◌, map, length, get_or, take, drop, set, sym, refl, ap, ◌∙◌, subst, ap₂, arith, length-set}
+use Rattle.std.proofs.Common.{◌≡◌, ℕ, zero, suc, ◌+◌, ◌-◌, ◌<◌, ◌≤◌, List, [], ◌∷◌, map, length, get_or, set, sym, refl, ap, ◌∙◌, subst, arith, length-set}
 use Rattle.std.specs.List.{AllByRecursion}
 use Rattle.std.proofs.lemmas.List.{length-map}
 use Rattle.std.proofs.ByRecursion.{All-get_or}
-use Rattle.space.specs.Row.{Row}
 use Rattle.rules.specs.Tree.{Box, Entry, Tree, boxed}
 use Rattle.rules.specs.Withdraw.{settled}
 use Rattle.tree.specs.declared.node.NodeEntry.{NodeEntry}
 use Rattle.tree.specs.declared.node.Node.{Node}
-use Rattle.tree.specs.Nodes.{no_entry, spot, node, inside, place_in, entry_of, least, Sound, one, total, times, tree_of}
-use Rattle.tree.specs.Leaving.{count_in, out_of, WithdrawnBelow, WithdrawnRoot, stock}
-use Rattle.tree.proofs.Frame.{times_spot, entry_spot, spot_sound}
+use Rattle.tree.specs.Nodes.{no_entry, spot, node, inside, place_in, entry_of, least, Sound, one, total, times}
+use Rattle.tree.specs.Leaving.{count_in, out_of, WithdrawnBelow, WithdrawnRoot}
+use Rattle.tree.proofs.Frame.{times_spot, spot_sound}
 use Rattle.tree.proofs.Fits.{least_some}
 use Rattle.tree.proofs.SetsAside.{stock_set}
 use Rattle.tree.proofs.Withdraws.{count_at, times_at}

@@ -1,29 +1,26 @@
 -- A number taken out below a node above the leaves: one of its entries has changed, or is taken out.
-use Rattle.std.proofs.Common.{◌≡◌, ℕ, zero, suc, ◌+◌, ◌-◌, ◌*◌, ◌<◌, ◌≤◌, Bool, true, false, cond, ◌||◌, ltb, List, [], ◌∷◌, ◌++◌, map, length, get_or, take, drop, set, sym, refl, ap, ◌∙◌, subst, ap₂, arith, length-set}
-use Rattle.std.specs.List.{flat_map, AllByRecursion}
+use Rattle.std.proofs.Common.{◌≡◌, ℕ, suc, ◌+◌, ◌*◌, ◌<◌, ◌≤◌, Bool, cond, ltb, List, ◌∷◌, ◌++◌, map, length, get_or, take, drop, set, sym, refl, ap, ◌∙◌, subst, ap₂, arith}
+use Rattle.std.specs.List.{AllByRecursion}
 use Rattle.std.proofs.lemmas.List.{length-map, length-append, length-take, length-drop, map-append, append_assoc, get_or-map, take-map, drop-map}
 use Rattle.std.proofs.ByRecursion.{All-append, All-get_or, All-take, All-drop}
 use Rattle.std.proofs.lemmas.Bool.{lt-ltb, le-ltb}
 use Rattle.space.specs.Row.{Row}
-use Rattle.rules.specs.Tree.{Box, Entry, Tree, boxed, rows_below}
+use Rattle.rules.specs.Tree.{Box, Entry, boxed, rows_below}
 use Rattle.rules.specs.Enter.{entries_at}
-use Rattle.rules.specs.Rows.{lists, without}
 use Rattle.rules.specs.Withdraw.{holder, withdraw_below}
 use Rattle.rules.proofs.Builds.{bare}
 use Rattle.rules.proofs.Rows.{split_at}
-use Rattle.space.specs.declared.clip.StoredClip.{StoredClip}
 use Rattle.tree.specs.declared.node.NodeEntry.{NodeEntry}
 use Rattle.tree.specs.declared.node.Node.{Node}
-use Rattle.tree.specs.Nodes.{no_entry, spot, node, inside, clip_in, place_in, entry_of, least, Sound, Lettered, one, total, times, held, Written}
+use Rattle.tree.specs.Nodes.{no_entry, spot, node, inside, place_in, entry_of, Sound, one, total, times, Written}
 use Rattle.space.specs.Row.{stored_row}
-use Rattle.tree.specs.Leaving.{rows_of, listed_in, first_of, kept, asides, clips_in, count_in, Within, SetAside, out_of, WithdrawnBelow}
-use Rattle.tree.proofs.Frame.{one_self, times_spot, entry_spot, sound_spot, Agree, Agrees, entry_frame, entries_same, totals_same, sounds_same, times_frame}
-use Rattle.tree.proofs.Writes.{put_length, put_other, put_at, put_agrees, put_entry, put_times}
+use Rattle.tree.specs.Leaving.{asides, clips_in, count_in, Within, SetAside, out_of, WithdrawnBelow}
+use Rattle.tree.proofs.Frame.{one_self, times_spot, entry_spot, Agree, Agrees, entries_same, totals_same, sounds_same}
+use Rattle.tree.proofs.Writes.{put_length, put_other, put_entry, put_times}
 use Rattle.tree.proofs.Siblings.{total_append, total_at, one_apart, Rest, Once, one_changed, total_changed, sound_changed}
-use Rattle.tree.proofs.Looks.{holder_first}
 use Rattle.tree.proofs.Fits.{least_some}
 use Rattle.tree.proofs.SetsAside.{all_within, within_from}
-use Rattle.tree.proofs.Withdraws.{clips_frame, count_frame, measure_same, clips_rows, clips_at, count_at, times_at, put_inside, put_len, put_full, put_clips, put_count, put_sounds}
+use Rattle.tree.proofs.Withdraws.{clips_frame, count_frame, measure_same, clips_rows, clips_at, count_at, times_at, put_len, put_full, put_clips, put_count, put_sounds}
 
 -- ---- a list but one of its places
 abbrev pub but : {E : Type 0} → ℕ → List E → List E

@@ -1,20 +1,14 @@
 -- What a node holds after it is made of some entries.
-use Rattle.std.proofs.Common.{◌≡◌, ℕ, zero, suc, ◌+◌, ◌-◌, ◌<◌, ◌≤◌, Bool, true, false, cond, List, [], ◌∷◌, ◌++◌, map, length, get_or, take, drop, set, sym, refl, ap, ◌∙◌, subst, ap₂, arith, length-set}
+use Rattle.std.proofs.Common.{◌≡◌, ℕ, suc, ◌+◌, ◌<◌, ◌≤◌, List, map, length, take, sym, ap, ◌∙◌, subst, ap₂, arith, length-set}
 use Rattle.std.specs.List.{AllByRecursion}
 use Rattle.std.proofs.lemmas.List.{get_or-set_same, get_or-set_other}
 use Rattle.space.specs.Boxes.{around}
-use Rattle.space.specs.Row.{Row}
-use Rattle.rules.specs.Tree.{Box, Entry, Tree, sets_of, boxed}
-use Rattle.rules.specs.Choice.{chosen}
-use Rattle.rules.specs.Division.{alike, group, division}
-use Rattle.rules.specs.Enter.{fitted, enter_below, entered, extra, entries_at, rooted}
-use Rattle.space.specs.declared.clip.StoredClip.{StoredClip}
+use Rattle.rules.specs.Tree.{Entry, sets_of, boxed}
 use Rattle.tree.specs.declared.node.NodeEntry.{NodeEntry}
 use Rattle.tree.specs.declared.node.Node.{Node}
-use Rattle.tree.specs.Nodes.{no_node, no_entry, spot, clip_in, place_in, least, node, inside, entry_of, one, total, times, Sound, Written, boxes_of}
-use Rattle.space.specs.Row.{stored_row}
+use Rattle.tree.specs.Nodes.{no_node, spot, least, node, inside, entry_of, one, total, times, Sound, Written}
 use Rattle.tree.proofs.Lists.{map_map}
-use Rattle.tree.proofs.Frame.{Agree, Agrees, entries_same, totals_same, sounds_same}
+use Rattle.tree.proofs.Frame.{Agrees, entries_same, totals_same, sounds_same}
 
 module _ (d : ℕ) (N M : List Node) (h i : ℕ) (es : List NodeEntry) (p : Written d N M h i es) where
   pub put_length : length M ≡ length N

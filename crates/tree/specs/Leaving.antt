@@ -1,8 +1,8 @@
 -- What a withdrawal does to a table of nodes, a worklist of words and a stack of free places.
-use Rattle.std.specs.Prelude.{◌≡◌, ℕ, zero, suc, ◌+◌, ◌*◌, ◌/◌, ◌%◌, ◌^◌, ◌<◌, ◌≤◌, Bool, true, false, cond, List, [], ◌∷◌, ◌++◌, map, length, take, drop, set, ◌==◌, ◌≢◌, nat_lt, slice_index}
+use Rattle.std.specs.Prelude.{◌≡◌, ℕ, zero, suc, ◌+◌, ◌/◌, ◌%◌, ◌^◌, ◌<◌, ◌≤◌, Bool, cond, List, [], ◌∷◌, ◌++◌, map, length, take, drop, ◌==◌, ◌≢◌, nat_lt, slice_index}
 use Rattle.std.specs.List.{flat_map, AllByRecursion}
 use Rattle.space.specs.Row.{Row}
-use Rattle.rules.specs.Tree.{Box, Entry, Tree, boxed, rows_below}
+use Rattle.rules.specs.Tree.{Entry, boxed, rows_below}
 use Rattle.rules.specs.Rows.{lists, rising}
 use Rattle.rules.specs.Finds.{Once}
 use Rattle.rules.specs.Withdraw.{withdraw_below, settled}
@@ -11,8 +11,7 @@ use Rattle.tree.specs.declared.node.NodeEntry.{NodeEntry}
 use Rattle.tree.specs.declared.node.Node.{Node}
 use Rattle.tree.specs.Nodes.{node, inside, spot, clip_in, place_in, entry_of, one, total, times, Sound, Lettered, tree_of}
 use Rattle.space.specs.Row.{stored_row, stored_rows}
-use Rattle.rules.specs.Enter.{entered, entered_all}
-use Rattle.rules.specs.Build.{Build}
+use Rattle.rules.specs.Enter.{entered}
 
 -- ---- the worklist: the numbers of the clips set aside in its first half, their letters in its second, six bits each
 abbrev pub letters_of : ℕ → ℕ → List ℕ

@@ -1,6 +1,6 @@
 -- What a table of nodes stands for.
-use Rattle.std.specs.Prelude.{◌≡◌, ℕ, zero, suc, ◌+◌, ◌<◌, ◌≤◌, Bool, true, false, cond, List, [], ◌∷◌, ◌++◌, map, length, take, replicate, Some, None, Option, ◌==◌, ◌≢◌, slice_index, slice_index_or, slice_set}
-use Rattle.space.specs.Boxes.{around, point}
+use Rattle.std.specs.Prelude.{◌≡◌, ℕ, zero, suc, ◌+◌, ◌<◌, ◌≤◌, Bool, true, cond, List, [], ◌∷◌, map, length, take, replicate, Some, None, Option, ◌==◌, ◌≢◌, slice_index, slice_index_or, slice_set}
+use Rattle.space.specs.Boxes.{around}
 use Rattle.std.specs.List.{AllByRecursion}
 use Rattle.rules.specs.Choice.{chosen}
 use Rattle.rules.specs.Division.{division}

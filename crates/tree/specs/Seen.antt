@@ -1,8 +1,7 @@
 -- An index as it is seen.
 use Rattle.std.specs.Prelude.{ℕ, ◌-◌, List, length, take, vec_items, vec_len}
-use Rattle.rules.specs.Tree.{Tree, rows_in}
+use Rattle.rules.specs.Tree.{Tree}
 use Rattle.rules.specs.State.{Seen, standing}
-use Rattle.space.specs.Row.{Row}
 use Rattle.tree.specs.declared.index.Index.{Index}
 use Rattle.tree.specs.Nodes.{tree_of}
 use Rattle.tree.specs.Standing.{reserve}

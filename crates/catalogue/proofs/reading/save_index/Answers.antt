@@ -12,8 +12,8 @@ pub returns-in-Some : goal.returns-in-Some
 returns-in-Some c =
     let x = c.args.index.now in
     let B = c.rising.new.out in
-    let n = c.unwrap-or-n.result in
-    let l = all_listed x (rising (rows_in (tree_in x))) _ B c.rising.result n c.rising.ensures (search rules) c.unwrap-or-n.ensures in
+    let n = c.unwrap_or-n.result in
+    let l = all_listed x (rising (rows_in (tree_in x))) _ B c.rising.result n c.rising.ensures (search rules) c.unwrap_or-n.ensures in
     let clips = take (n - 0) B in
     let axes : dimensions (length (plan_of x)) ≡ true = ap (λ p. dimensions (length p)) (sym c.plan.ensures.value) ∙ c.plan.ensures.axes in
     let room = length c.args.output.now in
@@ -29,8 +29,8 @@ pub returns-in-None : goal.returns-in-None
 returns-in-None c =
     let x = c.args.index.now in
     let B = c.rising.new.out in
-    let n = c.unwrap-or-n.result in
-    let l = all_listed x (rising (rows_in (tree_in x))) _ B c.rising.result n c.rising.ensures (search rules) c.unwrap-or-n.ensures in
+    let n = c.unwrap_or-n.result in
+    let l = all_listed x (rising (rows_in (tree_in x))) _ B c.rising.result n c.rising.ensures (search rules) c.unwrap_or-n.ensures in
     let clips = take (n - 0) B in
     let axes : dimensions (length (plan_of x)) ≡ true = ap (λ p. dimensions (length p)) (sym c.plan.ensures.value) ∙ c.plan.ensures.axes in
     let room = length c.args.output.now in

@@ -1,4 +1,4 @@
-use Rattle.std.proofs.Common.{◌≡◌, ◌+◌, get_or, subst, arith, rules}
+use Rattle.std.proofs.Common.{◌≡◌, ◌+◌, get_or, subst, arith}
 use Rattle.tree.specs.Standing.{rows_of, EnteredAgain}
 use Rattle.tree.proofs.Standings.{stands_used, by_lettered, again_start, again_step}
 use Rattle.tree.proofs.again.enter_again.Goals as goal

@@ -1,5 +1,4 @@
-use Rattle.std.proofs.Common.{ℕ, ◌/◌, ◌^◌, List, get_or, ap, ◌∙◌, arith}
-use Rattle.space.specs.declared.clip.StoredClip.{StoredClip}
+use Rattle.std.proofs.Common.{ℕ, ◌/◌, ◌^◌, List, get_or, ap, ◌∙◌}
 use Rattle.tree.specs.Leaving.{letters_of, clip_by}
 use Rattle.tree.proofs.aside.keyed_at.Goals as goal
 

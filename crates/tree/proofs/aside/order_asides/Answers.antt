@@ -1,4 +1,4 @@
-use Rattle.std.proofs.Common.{◌≡◌, ◌-◌, ltb, ◌++◌, take, drop, refl, ap, ◌∙◌, subst, ap₂, arith, rules}
+use Rattle.std.proofs.Common.{◌≡◌, ◌-◌, ltb, ◌++◌, take, drop, refl, ap, ◌∙◌, subst, ap₂, arith}
 use Rattle.ranked.specs.Rank.{ranked}
 use Rattle.tree.proofs.Packs.{Keys, keys_none, keys_more, in_order}
 use Rattle.tree.proofs.aside.order_asides.Goals as goal

@@ -1,4 +1,4 @@
-use Rattle.std.proofs.Common.{◌≡◌, ℕ, map, length, take, sym, refl, ap, ◌∙◌, arith}
+use Rattle.std.proofs.Common.{◌≡◌, map, take, sym, ap, ◌∙◌, arith}
 use Rattle.tree.specs.Nodes.{divided}
 use Rattle.rules.specs.Choice.{Score}
 use Rattle.rules.specs.Division.{best_below}

@@ -1,6 +1,6 @@
-use Rattle.std.proofs.Common.{◌≡◌, ℕ, ◌+◌, ◌/◌, ◌^◌, Bool, true, false, cond, List, [], length, get_or, drop, replicate, sym, refl, ap, ◌∙◌, arith}
+use Rattle.std.proofs.Common.{◌≡◌, ◌+◌, ◌/◌, ◌^◌, cond, [], get_or, drop, replicate, ap, ◌∙◌, arith}
 use mathlib.Core.Bool.{beq}
-use Rattle.space.specs.Boxes.{join, joined, around, has}
+use Rattle.space.specs.Boxes.{join, joined, has}
 use Rattle.rules.specs.Division.{alike, group}
 use Rattle.tree.proofs.Parts.{group_start, side_step, side_end}
 use Rattle.tree.proofs.Lists.{alike_beq}

@@ -1,4 +1,4 @@
-use Rattle.std.proofs.Common.{◌≡◌, ◌/◌, ◌^◌, length, drop}
+use Rattle.std.proofs.Common.{◌≡◌, ◌/◌, ◌^◌, drop}
 use Rattle.space.specs.Boxes.{around, joined}
 use Rattle.rules.specs.Division.{group}
 use Rattle.tree.proofs.division.group_box.Given as goal

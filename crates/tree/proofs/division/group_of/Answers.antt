@@ -1,5 +1,5 @@
 use Rattle.tree.specs.Nodes.{no_entry}
-use Rattle.std.proofs.Common.{◌≡◌, ℕ, ◌+◌, ◌-◌, ◌/◌, ◌^◌, Bool, true, false, cond, List, [], ◌++◌, length, get_or, take, drop, sym, refl, ap, ◌∙◌, ap₂, arith, length-set}
+use Rattle.std.proofs.Common.{◌≡◌, ◌+◌, ◌/◌, ◌^◌, ◌++◌, length, take, drop, sym, ap, ◌∙◌, ap₂, arith, length-set}
 use mathlib.Core.Bool.{beq}
 use Rattle.space.specs.Boxes.{has}
 use Rattle.rules.specs.Division.{alike, group}

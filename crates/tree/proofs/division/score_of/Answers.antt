@@ -1,4 +1,4 @@
-use Rattle.std.proofs.Common.{◌≡◌, ℕ, ◌+◌, ◌-◌, ◌≤◌, Bool, true, false, List, map, length, take, sym, refl, ap, ◌∙◌, ap₂, arith}
+use Rattle.std.proofs.Common.{◌≡◌, ℕ, ◌+◌, ◌-◌, ◌≤◌, Bool, true, false, List, map, take, sym, ap, ◌∙◌, ap₂}
 use Rattle.space.specs.Boxes.{around, area, common}
 use Rattle.rules.specs.Division.{group}
 use Rattle.tree.proofs.Cuts.{take_around}

@@ -1,6 +1,6 @@
-use Rattle.std.proofs.Common.{◌≡◌, ℕ, suc, ◌+◌, ◌-◌, ◌<◌, ◌≤◌, Bool, true, false, cond, length, get_or, take, sym, refl, ap, ◌∙◌, subst, add-one, arith, rules}
-use Rattle.tree.specs.Nodes.{Sound, Fitted, EnteredBelow, inside, node, spot, place_in, place_of, times, held}
-use Rattle.tree.proofs.EntersAt.{some_above, ask_leaf, done_leaf, sound_parts, Known, child, ask_child, ask_keep, done_keep, ask_more, done_more}
+use Rattle.std.proofs.Common.{ℕ, suc, ◌+◌, ◌-◌, ◌≤◌, true, false, sym, subst, add-one, arith}
+use Rattle.tree.specs.Nodes.{Sound, EnteredBelow, spot, times, held}
+use Rattle.tree.proofs.EntersAt.{some_above, ask_leaf, done_leaf, sound_parts, ask_child, ask_keep, done_keep, ask_more, done_more}
 use Rattle.tree.proofs.entering.+enter_below.Goals as goal
 
 pub add_entry-requires : goal.add_entry-requires

@@ -1,6 +1,6 @@
-use Rattle.std.proofs.Common.{◌≡◌, ℕ, suc, ◌+◌, ◌-◌, ◌<◌, ◌≤◌, List, [], ◌∷◌, length, get_or, take, sym, refl, ap, ◌∙◌, subst, subst₂, add-one, arith, rules}
+use Rattle.std.proofs.Common.{◌≡◌, ℕ, suc, ◌+◌, [], ◌∷◌, get_or, sym, subst, subst₂, add-one, arith}
 use Rattle.std.specs.List.{AllByRecursion}
-use Rattle.tree.specs.Nodes.{Sound, Written, EnteredRoot, spot, times, held, one}
+use Rattle.tree.specs.Nodes.{Sound, Written, EnteredRoot, spot}
 use Rattle.tree.proofs.Siblings.{held_more}
 use Rattle.tree.proofs.EntersRoot.{rose_one, rose_two, pair_sound}
 use Rattle.tree.proofs.entering.enter_root.Goals as goal

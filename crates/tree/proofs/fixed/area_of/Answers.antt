@@ -1,4 +1,4 @@
-use Rattle.std.proofs.Common.{◌^◌, ◌≤◌, length, unwrap_or, ap, ◌∙◌, arith}
+use Rattle.std.proofs.Common.{length, unwrap_or, ap, ◌∙◌}
 use Rattle.tree.proofs.Cuts.{area_or, bounded_or}
 use Rattle.tree.proofs.fixed.area_of.Goals as goal
 

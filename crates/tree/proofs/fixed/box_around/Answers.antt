@@ -1,5 +1,5 @@
-use Rattle.std.proofs.Common.{◌≡◌, ◌+◌, [], length, get_or, drop, sym, refl, ap, ◌∙◌, arith}
-use Rattle.space.specs.Boxes.{join, joined, around}
+use Rattle.std.proofs.Common.{◌+◌, drop, ap, ◌∙◌, arith}
+use Rattle.space.specs.Boxes.{joined}
 use Rattle.tree.proofs.Cuts.{joined_step, joined_end}
 use Rattle.tree.proofs.fixed.box_around.Goals as goal
 

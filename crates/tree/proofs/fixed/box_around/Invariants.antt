@@ -1,4 +1,4 @@
-use Rattle.std.proofs.Common.{◌≡◌, length, drop}
+use Rattle.std.proofs.Common.{◌≡◌, drop}
 use Rattle.space.specs.Boxes.{around, joined}
 use Rattle.tree.proofs.fixed.box_around.Given as goal
 

@@ -1,9 +1,9 @@
-use Rattle.std.proofs.Common.{◌≡◌, ℕ, ◌-◌, ◌<◌, ◌≤◌, Bool, true, false, eqb, List, length, get_or, take, sym, refl, ap, ◌∙◌, subst, arith, rules}
+use Rattle.std.proofs.Common.{◌≡◌, ◌-◌, ◌≤◌, false, eqb, take, sym, ap, ◌∙◌, subst, arith, rules}
 use Rattle.std.specs.List.{AllByRecursion}
 use Rattle.std.proofs.lemmas.List.{take_all}
 use Rattle.std.proofs.ByRecursion.{All-get_or, All-more}
 use Rattle.space.specs.declared.clip.StoredClip.{StoredClip}
-use Rattle.tree.specs.Nodes.{node, inside, Sound, no_entry}
+use Rattle.tree.specs.Nodes.{node, Sound, no_entry}
 use Rattle.tree.specs.Leaving.{listed_in}
 use Rattle.tree.proofs.Lists.{cut}
 use Rattle.tree.proofs.Looks.{listed_leaf}

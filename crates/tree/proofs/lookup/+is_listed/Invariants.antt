@@ -1,4 +1,4 @@
-use Rattle.std.proofs.Common.{◌≡◌, ℕ, ◌-◌, Bool, false, take}
+use Rattle.std.proofs.Common.{◌≡◌, ℕ, ◌-◌, false, take}
 use Rattle.std.specs.List.{AllByRecursion}
 use Rattle.tree.specs.Leaving.{listed_in}
 use Rattle.tree.proofs.lookup.+is_listed.Given as goal

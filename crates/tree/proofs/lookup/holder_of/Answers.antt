@@ -1,7 +1,7 @@
-use Rattle.std.proofs.Common.{◌≡◌, ℕ, ◌-◌, ◌<◌, ◌≤◌, List, length, get_or, take, sym, refl, ap, ◌∙◌, subst, arith, rules}
+use Rattle.std.proofs.Common.{◌≡◌, ◌-◌, length, take, sym, ap, ◌∙◌, subst, arith}
 use Rattle.std.specs.List.{AllByRecursion}
 use Rattle.std.proofs.ByRecursion.{All-get_or}
-use Rattle.tree.specs.Nodes.{node, inside, Sound, no_entry}
+use Rattle.tree.specs.Nodes.{node, Sound, no_entry}
 use Rattle.tree.specs.Leaving.{listed_in, first_of}
 use Rattle.tree.proofs.Lists.{cut}
 use Rattle.tree.proofs.Looks.{first_here, first_later, first_none}

@@ -1,5 +1,4 @@
-use Rattle.std.proofs.Common.{◌≡◌, ℕ, ◌+◌, length, take, drop}
-use Rattle.tree.specs.Nodes.{node, inside}
+use Rattle.std.proofs.Common.{◌≡◌, ℕ, ◌+◌, drop}
 use Rattle.tree.specs.Leaving.{first_of, listed_in}
 use Rattle.tree.proofs.lookup.holder_of.Given as goal
 

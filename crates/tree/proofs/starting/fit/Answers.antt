@@ -1,6 +1,5 @@
-use Rattle.std.proofs.Common.{◌≡◌, ◌<◌, ◌≤◌, ap, ◌∙◌, arith}
+use Rattle.std.proofs.Common.{arith}
 use Rattle.std.proofs.lemmas.Result.{err_from_is_err_and}
-use Rattle.refusals.specs.Refused.{refusal_of}
 use Rattle.tree.proofs.Fitting.{fit_plan, fit_capacity, fit_table, fit_fine}
 use Rattle.tree.proofs.starting.fit.Goals as goal
 

@@ -1,4 +1,4 @@
-use Rattle.std.proofs.Common.{◌≡◌, ◌++◌, length, ◌∙◌, ap₂, arith}
+use Rattle.std.proofs.Common.{◌++◌, length, ap₂}
 use Rattle.std.proofs.lemmas.List.{drop-replicate}
 use Rattle.tree.proofs.starting.ten_of.Goals as goal
 

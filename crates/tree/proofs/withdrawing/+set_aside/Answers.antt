@@ -1,8 +1,8 @@
-use Rattle.std.proofs.Common.{◌≡◌, ℕ, ◌+◌, ◌-◌, ◌*◌, ◌<◌, ◌≤◌, List, length, get_or, take, set, sym, refl, ap, ◌∙◌, subst, arith, rules}
+use Rattle.std.proofs.Common.{◌-◌, ◌≤◌, take, set, sym, subst, arith, rules}
 use Rattle.std.specs.List.{AllByRecursion}
 use Rattle.std.proofs.ByRecursion.{All-get_or}
-use Rattle.tree.specs.Nodes.{node, inside, no_entry, Lettered}
-use Rattle.tree.specs.Leaving.{Within, clips_in, count_in}
+use Rattle.tree.specs.Nodes.{node, no_entry, Lettered}
+use Rattle.tree.specs.Leaving.{Within}
 use Rattle.tree.proofs.Lists.{cut}
 use Rattle.tree.proofs.SetsAside.{within_leaf, within_up, clips_leaf_long, spilled_leaf, walk_start, walk_step, walk_end, walk_room, count_up, cut_short}
 use Rattle.tree.proofs.withdrawing.+set_aside.Goals as goal

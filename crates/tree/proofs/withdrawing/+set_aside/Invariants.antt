@@ -1,4 +1,4 @@
-use Rattle.std.proofs.Common.{ℕ, ◌-◌}
+use Rattle.std.proofs.Common.{◌-◌}
 use Rattle.tree.proofs.SetsAside.{Walk}
 use Rattle.tree.proofs.withdrawing.+set_aside.Given as goal
 

@@ -1,9 +1,8 @@
-use Rattle.std.proofs.Common.{◌≡◌, ℕ, suc, ◌+◌, ◌-◌, ◌*◌, ◌<◌, ◌≤◌, Bool, true, false, List, length, get_or, take, sym, refl, ap, ◌∙◌, subst, arith, rules}
-use Rattle.std.specs.List.{AllByRecursion}
-use Rattle.tree.specs.Nodes.{node, inside, spot, Sound, Written, times}
+use Rattle.std.proofs.Common.{◌≡◌, ℕ, suc, ◌+◌, ◌-◌, ◌*◌, ◌<◌, ◌≤◌, true, length, sym, subst, arith}
+use Rattle.tree.specs.Nodes.{node, spot, Sound, times}
 use Rattle.tree.specs.Leaving.{listed_in, clips_in, count_in, Within, SetAside, WithdrawnBelow}
 use Rattle.tree.proofs.EntersAt.{sound_parts}
-use Rattle.tree.proofs.WithdrawsAt.{Known, known, ask_down, ask_len, ask_keep, done_keep, ask_spill, ask_out, done_out, ask_strip, done_strip}
+use Rattle.tree.proofs.WithdrawsAt.{known, ask_down, ask_len, ask_keep, done_keep, ask_spill, ask_out, done_out, ask_strip, done_strip}
 use Rattle.tree.proofs.withdrawing.+withdraw_below.Goals as goal
 
 pub remove_clip-requires : goal.remove_clip-requires

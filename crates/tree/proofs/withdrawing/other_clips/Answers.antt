@@ -1,4 +1,4 @@
-use Rattle.std.proofs.Common.{◌≡◌, ℕ, ◌+◌, eqb, List, [], ◌++◌, length, get_or, take, drop, sym, refl, ap, ◌∙◌, ap₂, arith, length-set}
+use Rattle.std.proofs.Common.{◌+◌, eqb, ◌++◌, length, get_or, take, drop, ap, ◌∙◌, ap₂, arith, length-set}
 use Rattle.tree.specs.Nodes.{no_entry, clip_in}
 use Rattle.tree.specs.Leaving.{kept}
 use Rattle.tree.proofs.Looks.{kept_takes, kept_passes, kept_end}

@@ -1,6 +1,5 @@
-use Rattle.std.proofs.Common.{◌≡◌, ℕ, suc, ◌+◌, ◌-◌, ◌*◌, ◌<◌, ◌≤◌, length, get_or, take, set, sym, refl, ap, ◌∙◌, subst, arith, rules}
-use Rattle.tree.specs.Nodes.{node, inside, spot, Sound}
-use Rattle.tree.specs.Leaving.{WithdrawnBelow, WithdrawnRoot}
+use Rattle.std.proofs.Common.{◌-◌, set, sym, subst, arith}
+use Rattle.tree.specs.Leaving.{WithdrawnRoot}
 use Rattle.tree.proofs.EntersAt.{sound_parts}
 use Rattle.tree.proofs.WithdrawsRoot.{root_in, sunk_leaf, sunk_wide, ask_lower, done_lower}
 use Rattle.tree.proofs.withdrawing.withdraw_root.Goals as goal

@@ -1,7 +1,7 @@
 use Rattle.tree.specs.declared.node.NodeEntry.{NodeEntry}
-use Rattle.std.proofs.Common.{◌≡◌, ℕ, ◌+◌, ◌-◌, ◌≤◌, List, [], ◌∷◌, ◌++◌, length, get_or, take, sym, ap, ◌∙◌, subst, arith, length-set, rules}
-use Rattle.std.proofs.lemmas.List.{take_all, length-take-le}
-use Rattle.tree.specs.Nodes.{Fitted, node, inside}
+use Rattle.std.proofs.Common.{◌≡◌, ℕ, ◌+◌, ◌-◌, ◌≤◌, List, [], ◌∷◌, ◌++◌, length, take, sym, ap, ◌∙◌, subst, arith, rules}
+use Rattle.std.proofs.lemmas.List.{length-take-le}
+use Rattle.tree.specs.Nodes.{Fitted, node}
 use Rattle.tree.proofs.writing.add_entry.Goals as goal
 
 longer : (n m : ℕ) (xs r : List NodeEntry) (e : NodeEntry) → n ≤ length xs → m ≡ n + 1 → take (length (take (n - 0) xs) + 1) r ≡ take (n - 0) xs ++ e ∷ [] → take m r ≡ take n xs ++ e ∷ []

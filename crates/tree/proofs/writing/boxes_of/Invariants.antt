@@ -1,4 +1,4 @@
-use Rattle.std.proofs.Common.{◌≡◌, ℕ, ◌^◌, ◌<◌, map, length, get_or, take}
+use Rattle.std.proofs.Common.{◌≡◌, map, length, take}
 use Rattle.std.specs.List.{AllByRecursion}
 use Rattle.tree.specs.Nodes.{boxes_of}
 use Rattle.tree.proofs.writing.boxes_of.Given as goal

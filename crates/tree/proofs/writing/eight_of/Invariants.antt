@@ -1,4 +1,4 @@
-use Rattle.std.proofs.Common.{◌≡◌, ℕ, ◌<◌, length, get_or, take}
+use Rattle.std.proofs.Common.{◌≡◌, length, take}
 use Rattle.tree.proofs.writing.eight_of.Given as goal
 
 abbrev pub invariant-loop-i : goal.invariant-loop-i

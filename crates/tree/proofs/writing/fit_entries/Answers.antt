@@ -1,10 +1,9 @@
-use Rattle.std.proofs.Common.{◌≡◌, ℕ, ◌+◌, ◌-◌, ◌<◌, ◌≤◌, Bool, true, false, cond, List, [], ◌++◌, map, length, get_or, take, drop, sym, refl, ap, ◌∙◌, subst, ap₂, arith, rules}
+use Rattle.std.proofs.Common.{◌≡◌, ℕ, true, false, List, map, length, take, sym, ap, ◌∙◌, subst, arith, rules}
 use Rattle.std.specs.List.{AllByRecursion}
 use Rattle.std.proofs.lemmas.List.{take_all}
 use Rattle.rules.specs.Tree.{sets_of}
-use Rattle.rules.specs.Division.{group}
 use Rattle.rules.proofs.Groups.{Code, all_group}
-use Rattle.tree.specs.Nodes.{Sound, Written, Fitted, entry_of, boxes_of, divided}
+use Rattle.tree.specs.Nodes.{Sound, Written, entry_of, divided}
 use Rattle.tree.proofs.Lists.{map_map, cut}
 use Rattle.tree.proofs.Fits.{settled_one, settled_two, second_side, side_few, divided_code}
 use Rattle.tree.proofs.writing.fit_entries.Goals as goal

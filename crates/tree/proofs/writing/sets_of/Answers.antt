@@ -1,7 +1,7 @@
 use Rattle.space.specs.Boxes.{point}
-use Rattle.std.proofs.Common.{◌≡◌, ℕ, ◌<◌, length, get_or, take, sym, ap, ◌∙◌, subst, arith}
+use Rattle.std.proofs.Common.{◌<◌, length, take, sym, ap, ◌∙◌, subst, arith}
 use Rattle.space.specs.declared.clip.StoredClip.{StoredClip}
-use Rattle.tree.specs.Nodes.{clip_in, place_in, node}
+use Rattle.tree.specs.Nodes.{node}
 use Rattle.tree.proofs.Cuts.{take_point}
 use Rattle.tree.proofs.Levels.{leaf_sets, node_sets, node_sound}
 use Rattle.tree.proofs.writing.sets_of.Goals as goal

@@ -1,7 +1,6 @@
-use Rattle.std.proofs.Common.{◌≡◌, ◌-◌, length, get_or, take, sym, refl, ap, ◌∙◌, arith, length-set}
+use Rattle.std.proofs.Common.{◌≡◌, ◌-◌, length, take, refl, ap, ◌∙◌, arith}
 use Rattle.space.specs.Boxes.{around}
 use Rattle.tree.proofs.Cuts.{take_around}
-use Rattle.tree.specs.Nodes.{Written}
 use Rattle.tree.proofs.writing.write_node.Goals as goal
 
 pub returns : goal.returns

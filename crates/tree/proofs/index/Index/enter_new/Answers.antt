@@ -1,4 +1,4 @@
-use Rattle.std.proofs.Common.{◌≡◌, ◌+◌, length, vec_items, sym, refl, ap, ◌∙◌, subst, arith, rules}
+use Rattle.std.proofs.Common.{◌+◌, vec_items, sym, refl, subst, arith}
 use Rattle.std.specs.Vec.{with_items}
 use Rattle.tree.specs.Standing.{Whole}
 use Rattle.tree.specs.Seen.{plan_of}

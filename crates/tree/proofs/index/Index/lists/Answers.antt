@@ -1,9 +1,8 @@
-use Rattle.std.proofs.Common.{◌≡◌, suc, ◌+◌, vec_items, sym, refl, ap, ◌∙◌, subst, add-one, arith}
+use Rattle.std.proofs.Common.{suc, sym, ◌∙◌, subst, add-one, arith}
 use Rattle.std.proofs.lemmas.Bool.{lt-leb}
 use Rattle.rules.specs.Tree.{rows_in}
 use Rattle.tree.specs.Nodes.{spot, Sound}
-use Rattle.tree.specs.Leaving.{listed_in}
-use Rattle.tree.specs.Seen.{plan_of, tree_in}
+use Rattle.tree.specs.Seen.{tree_in}
 use Rattle.tree.proofs.Changes.{none_above, listed_root}
 use Rattle.tree.proofs.Wholes.{whole_of, low}
 use Rattle.tree.proofs.index.Index.lists.Goals as goal

@@ -1,4 +1,4 @@
-use Rattle.std.proofs.Common.{◌≡◌, length, sym, ◌∙◌, arith}
+use Rattle.std.proofs.Common.{length, sym, arith}
 use Rattle.rules.specs.Tree.{rows_in}
 use Rattle.rules.specs.Register.{withdraws}
 use Rattle.tree.specs.Seen.{tree_in}

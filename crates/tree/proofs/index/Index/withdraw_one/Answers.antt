@@ -1,4 +1,4 @@
-use Rattle.std.proofs.Common.{◌≡◌, length, refl, arith, rules}
+use Rattle.std.proofs.Common.{length, refl, arith}
 use Rattle.std.specs.Vec.{with_items}
 use Rattle.rules.specs.Tree.{rows_in}
 use Rattle.rules.proofs.Times.{listed_some}
