@@ -18,7 +18,7 @@ DECLARED = re.compile(r"(?m)^ *(?:(?:pattern|unfoldable|abbrev|pub|axiom)\s+)*(?
 GOAL = re.compile(r"(?m)^(?:abbrev )?pub (" + NAME + r") : goal\.")
 FOREIGN = re.compile(r"use (Rattle\.(\w+)|lib|Prim|mathlib|native|borrow|denote)\b[^\n{]*(?:\{([^}]*)\})?")
 
-# Names that would fall together with another in a file: a lemma that would have its definition's name gets `_lem`.
+# Names that would fall together with another in a file: a lemma that would have its definition's name gets `_lem`; `first_of` is a tactic.
 APART = {
     "after_check": "after_check_lem",
     "best-below": "best_below_lem",
@@ -27,6 +27,7 @@ APART = {
     "boxes-from": "boxes_from_lem",
     "commons-but": "commons_but_lem",
     "first-least": "first_least_lem",
+    "first_of": "first_index",
     "geh-finds": "geh_finds_lem",
     "getD-join": "get_or_join",
     "letterCost": "letter_costs",

@@ -13,7 +13,7 @@ use Rattle.tree.specs.declared.node.NodeEntry.{NodeEntry}
 use Rattle.tree.specs.declared.node.Node.{Node}
 use Rattle.tree.specs.Nodes.{no_entry, node, inside, clip_in, place_in, entry_of}
 use Rattle.space.specs.Row.{stored_row}
-use Rattle.tree.specs.Leaving.{rows_of, listed_in, first_of, kept}
+use Rattle.tree.specs.Leaving.{rows_of, listed_in, first_index, kept}
 
 pub rows_first : (h : ℕ) (e : Entry h) (es : List (Entry h)) → rows_below h (e ∷ es) ≡ rows_of h e ++ rows_below h es
 rows_first zero e es = refl
@@ -62,25 +62,25 @@ module _ (d : ℕ) (N : List Node) (n : ℕ) where
   listed_up zero e ne = absurd (ne refl)
   listed_up (suc h) e ne = ap (λ g. lists n (rows_below g (map (entry_of d N g) (inside (node N (place_in e)))))) (down h)
 
-  pub holder_first : (h : ℕ) (es : List NodeEntry) → holder h n (map (entry_of d N (suc h)) es) ≡ first_of (listed_in d N (suc h) n) es
+  pub holder_first : (h : ℕ) (es : List NodeEntry) → holder h n (map (entry_of d N (suc h)) es) ≡ first_index (listed_in d N (suc h) n) es
   unfolding listed_in
   holder_first h [] = refl
   holder_first h (e ∷ es) = ap (λ x. cond (listed_in d N (suc h) n e) 0 (suc x)) (holder_first h es)
 
 -- ---- the first that passes a test
-pub first_here : (p : NodeEntry → Bool) (es : List NodeEntry) (k : ℕ) → k < length es → p (get_or es k no_entry) ≡ true → first_of p es ≡ k + first_of p (drop k es) → k ≡ first_of p es
+pub first_here : (p : NodeEntry → Bool) (es : List NodeEntry) (k : ℕ) → k < length es → p (get_or es k no_entry) ≡ true → first_index p es ≡ k + first_index p (drop k es) → k ≡ first_index p es
 first_here p es k l t e =
-    let z : first_of p (drop k es) ≡ 0 = ap (first_of p) (drop_more es k no_entry l) ∙ ap (λ b. cond b 0 (suc (first_of p (drop (k + 1) es)))) t in
+    let z : first_index p (drop k es) ≡ 0 = ap (first_index p) (drop_more es k no_entry l) ∙ ap (λ b. cond b 0 (suc (first_index p (drop (k + 1) es)))) t in
     omega arith
 
-pub first_later : (p : NodeEntry → Bool) (es : List NodeEntry) (k : ℕ) → k < length es → p (get_or es k no_entry) ≡ false → first_of p es ≡ k + first_of p (drop k es) → first_of p es ≡ k + 1 + first_of p (drop (k + 1) es)
+pub first_later : (p : NodeEntry → Bool) (es : List NodeEntry) (k : ℕ) → k < length es → p (get_or es k no_entry) ≡ false → first_index p es ≡ k + first_index p (drop k es) → first_index p es ≡ k + 1 + first_index p (drop (k + 1) es)
 first_later p es k l t e =
-    let z : first_of p (drop k es) ≡ suc (first_of p (drop (k + 1) es)) = ap (first_of p) (drop_more es k no_entry l) ∙ ap (λ b. cond b 0 (suc (first_of p (drop (k + 1) es)))) t in
+    let z : first_index p (drop k es) ≡ suc (first_index p (drop (k + 1) es)) = ap (first_index p) (drop_more es k no_entry l) ∙ ap (λ b. cond b 0 (suc (first_index p (drop (k + 1) es)))) t in
     omega arith
 
-pub first_none : (p : NodeEntry → Bool) (es : List NodeEntry) (k : ℕ) → k ≡ length es → first_of p es ≡ k + first_of p (drop k es) → length es ≡ first_of p es
+pub first_none : (p : NodeEntry → Bool) (es : List NodeEntry) (k : ℕ) → k ≡ length es → first_index p es ≡ k + first_index p (drop k es) → length es ≡ first_index p es
 first_none p es k l e =
-    let z : first_of p (drop k es) ≡ 0 = ap (first_of p) (drop_all k es (omega arith)) in
+    let z : first_index p (drop k es) ≡ 0 = ap (first_index p) (drop_all k es (omega arith)) in
     omega arith
 
 -- ---- the entries of a leaf but those of a number

@@ -8,7 +8,7 @@ use Rattle.rules.specs.Withdraw.{holder}
 use Rattle.tree.specs.declared.node.NodeEntry.{NodeEntry}
 use Rattle.tree.specs.declared.node.Node.{Node}
 use Rattle.tree.specs.Nodes.{no_entry, spot, node, inside, place_in, entry_of, Sound, times, Written}
-use Rattle.tree.specs.Leaving.{rows_of, listed_in, first_of, kept, clips_in, count_in, Within, SetAside, WithdrawnBelow}
+use Rattle.tree.specs.Leaving.{rows_of, listed_in, first_index, kept, clips_in, count_in, Within, SetAside, WithdrawnBelow}
 use Rattle.tree.proofs.Looks.{holder_first, rows_first, lists_append}
 use Rattle.tree.proofs.EntersAt.{sound_parts}
 use Rattle.tree.proofs.Withdraws.{leaf_taken}
@@ -28,14 +28,14 @@ module _ (d : ℕ) (N : List Node) (n h : ℕ) where
   lists_nil (suc g) = refl
 
   pub first_found : (es : List NodeEntry) → lists n (rows_below h (map (entry_of d N h) es)) ≡ true
-      → (first_of (listed_in d N h n) es < length es) × (listed_in d N h n (get_or es (first_of (listed_in d N h n) es) no_entry) ≡ true)
+      → (first_index (listed_in d N h n) es < length es) × (listed_in d N h n (get_or es (first_index (listed_in d N h n) es) no_entry) ≡ true)
   first_found [] e = absurd (false≢true (sym (lists_nil h) ∙ e))
   first_found (x ∷ es) e = go (listed_in d N h n x) refl (first_found es) (sym (lists_cons x es) ∙ e)
     where
       go : (b : Bool) → listed_in d N h n x ≡ b
-          → (lists n (rows_below h (map (entry_of d N h) es)) ≡ true → (first_of (listed_in d N h n) es < length es) × (listed_in d N h n (get_or es (first_of (listed_in d N h n) es) no_entry) ≡ true))
+          → (lists n (rows_below h (map (entry_of d N h) es)) ≡ true → (first_index (listed_in d N h n) es < length es) × (listed_in d N h n (get_or es (first_index (listed_in d N h n) es) no_entry) ≡ true))
           → (b || lists n (rows_below h (map (entry_of d N h) es))) ≡ true
-          → (cond b 0 (suc (first_of (listed_in d N h n) es)) < suc (length es)) × (listed_in d N h n (get_or (x ∷ es) (cond b 0 (suc (first_of (listed_in d N h n) es))) no_entry) ≡ true)
+          → (cond b 0 (suc (first_index (listed_in d N h n) es)) < suc (length es)) × (listed_in d N h n (get_or (x ∷ es) (cond b 0 (suc (first_index (listed_in d N h n) es))) no_entry) ≡ true)
       go true is more e = (omega arith, is)
       go false is more e = let k = more e in (omega (arith, k.0), k.1)
 
@@ -52,11 +52,11 @@ module _ (d : ℕ) (N : List Node) (i number p : ℕ) where
     pub up : h ≡ 0 → ⊥
     pub apart : (k : ℕ) → times N (suc h) (spot i) k ≤ 1
     pub sound : Sound N (suc h) (spot i)
-    pub first : p ≡ first_of (listed_in d N h number) (inside (node N i))
+    pub first : p ≡ first_index (listed_in d N h number) (inside (node N i))
     pub within : p < length (inside (node N i))
     pub listed : listed_in d N h number (get_or (inside (node N i)) p no_entry) ≡ true
 
-  pub known : (h : ℕ) → (h ≡ 0 → ⊥) → ((k : ℕ) → times N (suc h) (spot i) k ≤ 1) → Sound N (suc h) (spot i) → p ≡ first_of (listed_in d N h number) (inside (node N i))
+  pub known : (h : ℕ) → (h ≡ 0 → ⊥) → ((k : ℕ) → times N (suc h) (spot i) k ≤ 1) → Sound N (suc h) (spot i) → p ≡ first_index (listed_in d N h number) (inside (node N i))
       → listed_in d N (suc h) number (spot i) ≡ true → Known h
   known h ne a s f l =
       let k = first_found d N number h (inside (node N i)) (listed_at d N number h i l) in
@@ -73,7 +73,7 @@ module _ (d : ℕ) (N : List Node) (i number p : ℕ) where
   unfolding listed_in entry_of
   listed_spot g e l = l
 
-  holder_is : (g : ℕ) → p ≡ first_of (listed_in d N (suc g) number) (inside (node N i)) → p ≡ holder g number (map (entry_of d N (suc g)) (inside (node N i)))
+  holder_is : (g : ℕ) → p ≡ first_index (listed_in d N (suc g) number) (inside (node N i)) → p ≡ holder g number (map (entry_of d N (suc g)) (inside (node N i)))
   holder_is g f = f ∙ sym (holder_first d N number g (inside (node N i)))
 
   pub ask_down : (h : ℕ) → Known h → Sound N (suc (h - 1)) (spot below) × (listed_in d N (suc (h - 1)) number (spot below) ≡ true) × ((k : ℕ) → times N (suc (h - 1)) (spot below) k ≤ 1)

@@ -76,9 +76,9 @@ unfoldable pub listed_in : ℕ → List Node → ℕ → ℕ → NodeEntry → B
 listed_in d N h n e = lists n (rows_of h (entry_of d N h e))
 
 -- the place of the first entry that passes a test
-abbrev pub first_of : (NodeEntry → Bool) → List NodeEntry → ℕ
-first_of p [] = 0
-first_of p (e ∷ es) = cond (p e) 0 (suc (first_of p es))
+abbrev pub first_index : (NodeEntry → Bool) → List NodeEntry → ℕ
+first_index p [] = 0
+first_index p (e ∷ es) = cond (p e) 0 (suc (first_index p es))
 
 -- the entries of a leaf but those of that number
 abbrev pub kept : ℕ → List NodeEntry → List NodeEntry

@@ -1,7 +1,7 @@
 // Where a clip stands in the tree.
 ghost use Rattle.std.specs.Prelude.{◌≡◌, ℕ, ◌<◌, ◌≤◌, length, slice_index_or};
 ghost use Rattle.std.specs.List.{AllByRecursion};
-ghost use Rattle.tree.specs.Leaving.{listed_in, first_of};
+ghost use Rattle.tree.specs.Leaving.{listed_in, first_index};
 ghost use Rattle.tree.specs.Nodes.{Sound, inside, node, no_entry, place_in};
 
 use crate::node::{Node, NodeEntry, clip_in, place_in};
@@ -30,7 +30,7 @@ pub(crate) fn holder_of(nodes: &[Node], height: usize, at: usize, number: u32) -
     requires within { at < length nodes.now }
     requires few { (node nodes.now at).len ≤ 8 }
     requires sound { AllByRecursion (Sound nodes.now height) (inside (node nodes.now at)) }
-    ensures { (d : ℕ) → result ≡ first_of (listed_in d nodes.now height number) (inside (node nodes.now at)) }
+    ensures { (d : ℕ) → result ≡ first_index (listed_in d nodes.now height number) (inside (node nodes.now at)) }
 {
     let node = nodes[at];
     let es = &node.entries[0..node.len];
