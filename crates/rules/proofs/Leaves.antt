@@ -30,7 +30,7 @@ holder_holds h n (b ∷ bs) l = go (lists n (rows_below h b.entries)) refl (hold
         (omega (arith, k.0), k.1)
 
 -- ---- what a withdrawal leaves
--- of the entries es, without the number n: o.0 stay, and the rows o .1 are set aside
+-- of the entries es, without the number n: o.0 stay, and the rows o.1 are set aside
 pub record Left (d h : ℕ) (es : List (Entry h)) (n : ℕ) (o : List (Entry h) × List Row) : Type 0 where
   pub good : AllByRecursion (Good d h) o.0
   pub most : length o.0 ≤ length es
