@@ -47,6 +47,14 @@ module _ (n i : ℕ) (a b : List ℕ) (h : i < length a) (k : i < length b) wher
 pub common_all : (n i : ℕ) (a b : List ℕ) → length a ≤ i → length b ≤ i → n * common (drop i a) (drop i b) ≡ n
 common_all n i a b h k = ap (λ x. n * x) (two_all common a b i h k) ∙ mul-one n
 
+-- a common area is a product, also where it stops early
+pub common_product : (m n : ℕ) (a b : List ℕ) → common (m ∷ a) (n ∷ b) ≡ ones (bit_and m n) * common a b
+common_product m n a b = go (eqb (ones (bit_and m n)) 0) refl
+  where
+    go : (t : Bool) → eqb (ones (bit_and m n)) 0 ≡ t → cond t 0 (ones (bit_and m n) * common a b) ≡ ones (bit_and m n) * common a b
+    go true e = sym (ap (λ x. x * common a b) (eqb-true (ones (bit_and m n)) 0 e) ∙ zero-mul (common a b))
+    go false e = refl
+
 -- the common area is the area of the box of the common letters
 pub common_meet : (a b : List ℕ) → length a ≡ length b → common a b ≡ area (meet a b)
 common_meet [] b h = refl

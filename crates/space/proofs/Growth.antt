@@ -5,6 +5,7 @@ use lib.Count.{ones, ones_step}
 use Rattle.std.proofs.lemmas.Nat.{mul-le, shr-shr}
 use Rattle.std.proofs.lemmas.Bool.{and_parts, and_from, or_left, eqb-true, eq-eqb}
 use Rattle.space.specs.Boxes.{has, area, common, join}
+use Rattle.space.proofs.Areas.{common_product}
 use Rattle.space.proofs.Sets.{union_has, both_has}
 
 -- every letter of the one is in the other
@@ -43,14 +44,6 @@ union_within_and : (m n x : ℕ) → Within (bit_and m x) (bit_and (bit_or m n) 
 union_within_and m n x l e =
     let p = and_parts (has m l) (has x l) (sym (both_has m x l) ∙ e) in
     both_has (bit_or m n) x l ∙ and_from (has (bit_or m n) l) (has x l) (union_within m n l p.0) p.1
-
--- a common area is a product, also where it stops early
-common_product : (m n : ℕ) (a b : List ℕ) → common (m ∷ a) (n ∷ b) ≡ ones (bit_and m n) * common a b
-common_product m n a b = go (eqb (ones (bit_and m n)) 0) refl
-  where
-    go : (t : Bool) → eqb (ones (bit_and m n)) 0 ≡ t → cond t 0 (ones (bit_and m n) * common a b) ≡ ones (bit_and m n) * common a b
-    go true e = sym (ap (λ x. x * common a b) (eqb-true (ones (bit_and m n)) 0 e) ∙ zero-mul (common a b))
-    go false e = refl
 
 pub area_grows : (a c : List ℕ) → area a ≤ area (join a c)
 area_grows [] c = omega arith

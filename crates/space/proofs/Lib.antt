@@ -5,3 +5,4 @@ pub mod Arounds
 pub mod Faults
 pub mod Growth
 pub mod Words
+pub mod Rewrites

@@ -6,6 +6,7 @@ use Rattle.std.proofs.lemmas.Nat.{and_mask, or_shr, and_shr, or_mod, and_mod, po
 use Rattle.std.proofs.lemmas.List.{drop_all}
 use Rattle.std.proofs.lemmas.Bool.{lt-ltb}
 use Rattle.std.proofs.lemmas.Bool.Decides.{nat_tests}
+use Rattle.std.specs.List.{zip, list_all}
 use Rattle.space.specs.Boxes.{has, in_box, join, only, point, filled}
 
 -- ---- one set
@@ -69,6 +70,13 @@ in_unlike [] (m ∷ b) h = refl
 in_unlike (l ∷ v) [] h = refl
 in_unlike (l ∷ v) (m ∷ b) h = let more = in_unlike v b (λ e. h (ap suc e)) in grind (arith, nat_tests)
 
+-- the test of each letter beside its set
+pub in_zip : (v b : List ℕ) → length v ≡ length b → list_all (λ p. has p.1 p.0) (zip v b) ≡ in_box v b
+in_zip [] [] e = refl
+in_zip [] (m ∷ b) e = absurd (omega arith)
+in_zip (l ∷ v) [] e = absurd (omega arith)
+in_zip (l ∷ v) (m ∷ b) e = ap (λ t. has m l && t) (in_zip v b (omega arith))
+
 join_nil : (a : List ℕ) → join a [] ≡ a
 join_nil [] = refl
 join_nil (m ∷ a) = refl
@@ -78,7 +86,7 @@ pub join_all : (a b : List ℕ) (i : ℕ) → (length a ≤ i) ⊎ (length b ≤
 join_all a b i (inl h) = let e = drop_all i a h in ap (λ t. join t (drop i b)) e ∙ sym e
 join_all a b i (inr h) = ap (join (drop i a)) (drop_all i b h) ∙ join_nil (drop i a)
 
-fill_nil : (s : List ℕ) → filled {X = ℕ} [] s ≡ s
+pub fill_nil : (s : List ℕ) → filled {X = ℕ} [] s ≡ s
 fill_nil [] = refl
 fill_nil (x ∷ s) = refl
 

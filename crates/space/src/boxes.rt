@@ -2,10 +2,12 @@
 ghost use Rattle.std.specs.Prelude.{◌≡◌, ◌^◌, ◌≤◌, true, length, is_some, IfSome};
 ghost use Rattle.space.specs.Boxes.{has, in_box, area, meet, join, point, only, small, dimensions, given, area_of, common_of, filled};
 ghost use Rattle.space.specs.LawsBoxes.{BothLetters};
+ghost use Rattle.space.specs.Rewritten.{Rewritten};
 
 const LETTERS: u8 = 64;
 
-const DIMENSIONS: usize = 10;
+// The most dimensions that a vector, a box or a plan has.
+pub const DIMENSIONS: usize = 10;
 
 // Whether the letter is in the set. A byte above 63 is no letter, and in no set.
 pub fn has(set: u64, letter: u8) -> bool
@@ -18,15 +20,22 @@ pub fn has(set: u64, letter: u8) -> bool
 pub fn contains(sets: &[u64], vector: &[u8]) -> bool
     ensures { result ≡ in_box vector.now sets.now }
 {
-    if vector.len() != sets.len() {
-        return false;
+    vector.len() == sets.len()
+        && vector
+            .iter()
+            .zip(sets)
+            .all(|(letter, set)| has(*set, *letter))
+}
+
+// Writes each set anew, of what it was and of what stands there in the other list, as far as both go.
+// By index: what is written through a zip of `iter_mut` is not known after it.
+fn rewrite<T: Copy, F: Fn(u64, T) -> u64>(sets: &mut [u64], other: &[T], f: F)
+    requires { F.IsAlwaysCallable f }
+    ensures { Rewritten (F.post f) sets.old other.now sets.new }
+{
+    for i in 0..sets.len().min(other.len()) {
+        sets[i] = f(sets[i], other[i]);
     }
-    for (i, letter) in vector.iter().enumerate() {
-        if !has(sets[i], *letter) {
-            return false;
-        }
-    }
-    true
 }
 
 // Adds the letters of the other box, dimension by dimension.
@@ -34,9 +43,7 @@ pub fn join(sets: &mut [u64], other: &[u64])
     ensures value { sets.new ≡ join sets.old other.now }
     ensures letters { BothLetters sets.old other.now sets.new }
 {
-    for i in 0..sets.len().min(other.len()) {
-        sets[i] |= other[i];
-    }
+    rewrite(sets, other, |set, more| set | more);
 }
 
 // The set of one letter. A byte above 63 is no letter, and its set is empty.
@@ -51,16 +58,14 @@ pub fn point(sets: &mut [u64], vector: &[u8])
     ensures value { sets.new ≡ filled (point vector.now) sets.old }
     ensures around { length sets.old ≡ length vector.now → small vector.now ≡ true → in_box vector.now sets.new ≡ true }
 {
-    for i in 0..sets.len().min(vector.len()) {
-        sets[i] = set_of(vector[i]);
-    }
+    rewrite(sets, vector, |_, letter| set_of(letter));
 }
 
-// Whether a vector or a box can have so many dimensions.
-fn is_dimensions(d: usize) -> bool
+// Whether a vector, a box or a plan can have so many dimensions.
+pub(crate) fn is_dimensions(d: usize) -> bool
     ensures { result ≡ dimensions d }
 {
-    1 <= d && d <= DIMENSIONS
+    (1..=DIMENSIONS).contains(&d)
 }
 
 // The product of the numbers of letters in the sets of a box; none of anything but 1 to 10 sets.
@@ -88,8 +93,8 @@ pub fn common_area(a: &[u64], b: &[u64]) -> Option<u64>
         return None;
     }
     let mut product: u64 = 1;
-    for (i, set) in a.iter().enumerate() {
-        let letters = (*set & b[i]).count_ones();
+    for (set, other) in a.iter().zip(b) {
+        let letters = (*set & *other).count_ones();
         // One dimension without a common letter: the others do not matter.
         if letters == 0 {
             return Some(0);

@@ -2,6 +2,8 @@
 ghost use Rattle.space.specs.Plans.{plan_fault, vector_fault, clip_fault, unless_fault, plan_number, plan_place, clip_number, clip_place};
 ghost use Rattle.std.specs.Prelude.{◌≡◌};
 
+use crate::boxes::is_dimensions;
+
 // What is at fault in a plan: how many sizes it has, or one of them, counted from 1.
 #[derive(Clone, Copy, PartialEq, Eq, Debug)]
 pub enum PlanFault {
@@ -65,15 +67,11 @@ impl ClipFault {
 pub fn check_plan(sizes: &[u8]) -> Result<(), PlanFault>
     ensures { result ≡ unless_fault (plan_fault sizes.now) }
 {
-    if sizes.is_empty() || sizes.len() > 10 {
+    if !is_dimensions(sizes.len()) {
         return Err(PlanFault::Dimensions);
     }
-    for (i, size) in sizes.iter().enumerate() {
-        if *size < 1 || *size > 64 {
-            return Err(PlanFault::Size(i + 1));
-        }
-    }
-    Ok(())
+    let fault = sizes.iter().position(|size| *size < 1 || *size > 64);
+    fault.map_or(Ok(()), |i| Err(PlanFault::Size(i + 1)))
 }
 
 // Whether the letters are a vector of the plan: as many as there are sizes, each below its size. Else what is at fault first.
@@ -83,12 +81,9 @@ pub fn check_vector(sizes: &[u8], letters: &[u8]) -> Result<(), ClipFault>
     if letters.len() != sizes.len() {
         return Err(ClipFault::Dimensions);
     }
-    for (i, letter) in letters.iter().enumerate() {
-        if *letter >= sizes[i] {
-            return Err(ClipFault::Letter(i + 1));
-        }
-    }
-    Ok(())
+    let mut pairs = letters.iter().zip(sizes);
+    let fault = pairs.position(|(letter, size)| *letter >= *size);
+    fault.map_or(Ok(()), |i| Err(ClipFault::Letter(i + 1)))
 }
 
 // Whether number and letters are a clip of the plan: a number from 1 on, and a vector of the plan. Else what is at fault first.
