@@ -4,3 +4,4 @@ pub mod Ranks
 pub mod Finds
 mod Steps
 mod Sorted
+pub mod Orders

@@ -1,9 +1,12 @@
 -- The steps of the code: what each turn of a loop keeps, and what the calls come to.
-use Rattle.std.proofs.Common.{◌≡◌, ℕ, zero, suc, ◌+◌, ◌-◌, ◌<◌, ◌≤◌, min, Bool, true, false, cond, List, [], ◌∷◌, ◌++◌, length, get_or, take, drop, set, sym, refl, ap, ◌∙◌, subst, ⊎_elim, arith}
-use Rattle.std.specs.List.{insert}
-use Rattle.std.proofs.lemmas.List.{take-take, take_more, take_at, take_all, take_more_set, length-take, length-take-le, drop_more, drop-set-lt, drop_all, drop-drop}
-use Rattle.std.proofs.lemmas.List.Edits.{get_or-insert_at, get_or-insert_above, length-insert}
+use Rattle.std.proofs.Common.{◌≡◌, ℕ, zero, suc, ◌+◌, ◌-◌, ◌<◌, ◌≤◌, min, Bool, true, false, not, cond, ltb, Some, None, List, [], ◌∷◌, ◌++◌, length, get_or, take, drop, set, sym, refl, ap, ◌∙◌, subst, ⊎_elim, arith}
+use Rattle.std.specs.List.{insert, position, position_or_len, CopiedTo, SameBelow}
+use Rattle.std.specs.Option.{unwrap_or}
+use Rattle.std.proofs.lemmas.List.{take-take, take_all, ext_get_or, get_or-take, get_or-set_other, get_or-set_same, length-take, length-take-le, drop_more, drop_all, drop-drop}
+use Rattle.std.proofs.lemmas.List.Edits.{get_or-insert_at, get_or-insert_below, get_or-insert_above, length-insert}
 use Rattle.std.proofs.lemmas.Bool.{cases_lt}
+use Rattle.std.proofs.lemmas.Bool.Decides.{nat_tests}
+use Rattle.std.proofs.Math.ListN.{length-set}
 use Rattle.ranked.specs.Rank.{place, rank_of, ranked, Order, Tie, InRank, keep_first}
 use Rattle.ranked.proofs.Places.{rank_within, place_at_rank, length_place}
 use Rattle.ranked.proofs.Ranks.{keep_first_is, keep_first_in_rank}
@@ -12,55 +15,56 @@ use Rattle.ranked.proofs.Ranks.{keep_first_is, keep_first_in_rank}
 read_drop : {X : Type 0} (xs : List X) (i : ℕ) (x : X) → i < length xs → x ≡ get_or xs i x → drop i xs ≡ x ∷ drop (i + 1) xs
 read_drop xs i x h read = drop_more xs i x h ∙ ap (λ y. y ∷ drop (i + 1) xs) (sym read)
 
--- ---- rank: what is left of the list gives the rest of the answer
-module _ {X : Type 0} (before : X → X → Bool) (e : X) (xs : List X) (i : ℕ) where
-  rank_at : (x : X) (t : Bool) → i < length xs → x ≡ get_or xs i x → before e x ≡ t
-      → rank_of before e (drop i xs) ≡ cond t 0 (suc (rank_of before e (drop (i + 1) xs)))
-  rank_at x t h read test =
-      ap (rank_of before e) (read_drop xs i x h read) ∙ ap (λ b. cond b 0 (suc (rank_of before e (drop (i + 1) xs)))) test
+-- how many elements stand to the left is the place of the first that the item stands before
+pub rank_found : {X : Type 0} (before : X → X → Bool) (e : X) (xs : List X) → unwrap_or (position (before e) xs) (length xs) ≡ rank_of before e xs
+rank_found before e [] = refl
+rank_found {X} before e (x ∷ xs) = go (before e x) (rank_found before e xs)
+  where
+    n : ℕ
+    n = position_or_len (before e) xs
 
-  pub rank_more : (x : X) → i < length xs → x ≡ get_or xs i x → before e x ≡ false
-      → (i + 1) + rank_of before e (drop (i + 1) xs) ≡ i + rank_of before e (drop i xs)
-  rank_more x h read test = let a = rank_at x false h read test in omega arith
+    later : (b : Bool) → ltb n (length xs) ≡ b → unwrap_or (cond b (Some n) None) (length xs) ≡ rank_of before e xs
+        → unwrap_or (cond (ltb (1 + n) (length (x ∷ xs))) (Some (1 + n)) None) (length (x ∷ xs)) ≡ suc (rank_of before e xs)
+    later true q more =
+        let t : ltb (1 + n) (length (x ∷ xs)) ≡ true = grind (arith, nat_tests) in
+        ap (λ b. unwrap_or (cond b (Some (1 + n)) None) (length (x ∷ xs))) t ∙ (let z : 1 + n ≡ suc (rank_of before e xs) = omega (arith, more) in z)
+    later false q more =
+        let t : ltb (1 + n) (length (x ∷ xs)) ≡ false = grind (arith, nat_tests) in
+        ap (λ b. unwrap_or (cond b (Some (1 + n)) None) (length (x ∷ xs))) t ∙ (let z : suc (length xs) ≡ suc (rank_of before e xs) = omega (arith, more) in z)
 
-  pub rank_here : (x : X) → i < length xs → x ≡ get_or xs i x → before e x ≡ true → i + rank_of before e (drop i xs) ≡ i
-  rank_here x h read test = let a = rank_at x true h read test in omega arith
+    go : (b : Bool) → unwrap_or (position (before e) xs) (length xs) ≡ rank_of before e xs
+        → unwrap_or (cond (ltb (cond (not b) (1 + n) 0) (length (x ∷ xs))) (Some (cond (not b) (1 + n) 0)) None) (length (x ∷ xs)) ≡ cond b 0 (suc (rank_of before e xs))
+    go true more = let t : ltb 0 (length (x ∷ xs)) ≡ true = grind (arith, nat_tests) in ap (λ b. unwrap_or (cond b (Some 0) None) (length (x ∷ xs))) t
+    go false more = later (ltb n (length xs)) refl more
 
-  pub rank_all : length xs ≤ i → i + rank_of before e (drop i xs) ≡ i
-  rank_all h = let a : rank_of before e (drop i xs) ≡ 0 = ap (rank_of before e) (drop_all i xs h) in omega arith
+-- the elements from a on moved one place up, and the item written there
+pub moved_up : {X : Type 0} (xs s : List X) (a e : ℕ) (item : X) → a < e → e ≤ length xs → length s ≡ length xs → CopiedTo xs s a (a + 1) (e - 1 - a) → SameBelow xs s (a + 1)
+    → take e (set s a item) ≡ take e (insert xs a item)
+moved_up xs s a e item h k n copied below =
+    ext_get_or item (take e (set s a item)) (take e (insert xs a item)) (simp (length-take, length-set, length-insert xs a item low) (omega arith))
+    (λ i l.
+    let m = length-take e (set s a item) in let near : i < e = omega arith in
+    get_or-take e (set s a item) i item near ∙ at i near ∙ sym (get_or-take e (insert xs a item) i item near))
+  where
+    low : a ≤ length xs
+    low = omega arith
 
--- ---- put: the front and the element in hand are the front of the list with the item put in
-module _ {X : Type 0} (l : List X) (at : ℕ) (e : X) where
-  pub put_none : at ≤ length l → take at l ++ (e ∷ []) ≡ take (at + 1) (insert l at e)
-  put_none h =
-      let n : length (insert l at e) ≡ length l + 1 = length-insert l at e h in
-      let m : at < length (insert l at e) = omega arith in
-      let a : take at (insert l at e) ≡ take at l = take_at (take at l) (e ∷ drop at l) at (length-take-le at l h) in
-      sym (take_more (insert l at e) at e m
-      ∙ ap (λ p. p ++ (get_or (insert l at e) at e ∷ [])) a
-      ∙ ap (λ y. take at l ++ (y ∷ [])) (get_or-insert_at l at e e h))
+    behind : (i : ℕ) → a < i → i < e → get_or s i item ≡ get_or (insert xs a item) i item
+    behind i m near =
+        let one : i - 1 + 1 ≡ i = omega arith in
+        let back : a + (i - (a + 1)) ≡ i - 1 = omega arith in
+        copied i item (omega arith) (omega arith) ∙ ap (λ j. get_or xs j item) back
+        ∙ sym (get_or-insert_above xs a item item (i - 1) (omega arith) low) ∙ ap (λ j. get_or (insert xs a item) j item) one
 
-  pub put_more : (s : List X) (i : ℕ) (held old : X) → at ≤ i → i < length l → length s ≡ length l
-      → take i s ++ (held ∷ []) ≡ take (i + 1) (insert l at e) → drop i s ≡ drop i l → old ≡ get_or s i old
-      → (take (i + 1) (set s i held) ++ (old ∷ []) ≡ take (i + 1 + 1) (insert l at e)) × (drop (i + 1) (set s i held) ≡ drop (i + 1) l)
-  put_more s i held old low high same front back read =
-      let h : i < length s = omega arith in
-      let lo : at ≤ length l = omega arith in
-      let n : length (insert l at e) ≡ length l + 1 = length-insert l at e lo in
-      let m : i + 1 < length (insert l at e) = omega arith in
-      let ds = drop_more s i old h in
-      let dl = drop_more l i old high in
-      let heads : get_or l i old ≡ old = cc in
-      let tails : drop (i + 1) s ≡ drop (i + 1) l = cc in
-      let a : take (i + 1) (set s i held) ≡ take (i + 1) (insert l at e) = take_more_set s i held h ∙ front in
-      let b : get_or (insert l at e) (i + 1) old ≡ old = get_or-insert_above l at e old i low lo ∙ heads in (
-        ap (λ p. p ++ (old ∷ [])) a ∙ sym (take_more (insert l at e) (i + 1) old m ∙ ap (λ y. take (i + 1) (insert l at e) ++ (y ∷ [])) b),
-        drop-set-lt (i + 1) s i held (omega arith) ∙ tails,
-      )
-
-  pub put_all : (s : List X) (i : ℕ) (held : X) → i ≤ length s → take i s ++ (held ∷ []) ≡ take (i + 1) (insert l at e) → take i s ≡ take i (insert l at e)
-  put_all s i held h front =
-      sym (take_at (take i s) (held ∷ []) i (length-take-le i s h)) ∙ ap (take i) front ∙ take-take i (i + 1) (insert l at e) (omega arith)
+    at : (i : ℕ) → i < e → get_or (set s a item) i item ≡ get_or (insert xs a item) i item
+    at i near =
+        ⊎_elim
+        (λ (m : i < a). get_or-set_other s a i item item (omega arith) ∙ below i item (omega arith) ∙ sym (get_or-insert_below xs a item item i m low))
+        (λ (m : a ≤ i). ⊎_elim
+        (λ (q : a < i). get_or-set_other s a i item item (omega arith) ∙ behind i q near)
+        (λ (q : i ≤ a). let z : i ≡ a = omega arith in rw z (get_or-set_same s a item item (omega arith) ∙ sym (get_or-insert_at xs a item item low)))
+        (cases_lt a i))
+        (cases_lt i a)
 
 -- ---- insert
 -- a cut past the end of a list is none

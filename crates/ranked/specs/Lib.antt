@@ -2,3 +2,4 @@ pub mod Same
 pub mod Rank
 pub mod Find
 pub mod LawsRank
+pub mod Texts

@@ -10,12 +10,8 @@ use crate::order::Ranked;
 fn rank<T: Ranked>(list: &[T], item: &T) -> usize
     ensures { result ≡ rank_of T.before item.now list.now }
 {
-    for (i, x) in list.iter().enumerate() {
-        if item.precedes(x) {
-            return i;
-        }
-    }
-    list.len()
+    let behind = list.iter().position(|x| *item < *x);
+    behind.unwrap_or(list.len())
 }
 
 // Writes the item at `at`, and moves what stood in `at..end` one place up; the last of these falls out.
@@ -24,11 +20,9 @@ fn put<T: Copy>(list: &mut [T], at: usize, end: usize, item: T)
     ensures front { take end list.new ≡ take end (insert list.old at item) }
     ensures back { drop end list.new ≡ drop end list.old }
 {
-    let mut held = item;
-    for i in at..end {
-        let old = list[i];
-        list[i] = held;
-        held = old;
+    if at < end {
+        list.copy_within(at..end - 1, at + 1);
+        list[at] = item;
     }
 }
 

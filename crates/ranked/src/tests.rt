@@ -1,4 +1,5 @@
 use crate::*;
+use std::test::Fail;
 
 fn find(distance: u32, clip: u32) -> Find {
     Find { distance, clip }
@@ -49,4 +50,18 @@ fn past_the_end_is_kept(rt: HostRuntime) {
     let mut list: [u64; 4] = [6, 9, 8, 7];
     assert_eq!(rt; insert(&mut list, 1, 2), 2);
     assert_eq!(rt; list, [2, 6, 8, 7]);
+}
+
+#[test]
+fn finds_read(rt: HostRuntime) -> Result<(), Fail> {
+    let text = find(3, 7).to_string(rt.alloc())?;
+    assert!(rt; text.as_str() == "clip 7 at 3");
+    Ok(())
+}
+
+#[test]
+fn finds_compare_by_distance_first(rt: HostRuntime) {
+    assert!(rt; find(1, 9) < find(2, 4));
+    assert!(rt; find(2, 4) < find(2, 9));
+    assert!(rt; find(2, 4) == find(2, 4));
 }

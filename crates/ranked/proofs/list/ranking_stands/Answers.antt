@@ -1,5 +1,9 @@
+use Rattle.ranked.proofs.Orders.{order_by, tie_by}
 use Rattle.ranked.proofs.Ranks.{ranking_stands}
 use Rattle.ranked.proofs.list.ranking_stands.Goals as goal
 
 pub returns : goal.returns
-returns g c = ranking_stands g.T.Ranked.before g.met.T.Ranked.order g.met.T.Ranked.tie
+returns g c =
+    let before = g.T.Ranked.before in
+    let law = g.met.T.Ranked in
+    ranking_stands before (order_by g.T.Ord.cmp before g.met.T.Ord.total law.by_cmp) (tie_by g.T.Ord.cmp before g.met.T.Ord.total law.by_cmp law.tie)
