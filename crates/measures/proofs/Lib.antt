@@ -1,2 +1,4 @@
 pub mod Tallies
 pub mod Countings
+pub mod Tests
+pub mod Spares

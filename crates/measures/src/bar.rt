@@ -5,7 +5,7 @@ ghost use Rattle.measures.specs.Layered.{bar_rule};
 
 use crate::cost::{are_vector_and_box, are_vectors};
 use crate::measure::Measure;
-use space::has;
+use space::{has, rewrite};
 
 // Ten sets of barred letters, one for each dimension. A vector with a barred letter has no distance. A box first loses its barred
 // letters, and has no floor only where a set has no letter left: one barred letter says nothing of the others.
@@ -35,42 +35,32 @@ fn has_barred(bars: &[u64; 10], vector: &[u8]) -> bool
     requires { length vector.now ≤ 10 }
     ensures { result ≡ barred bars.now vector.now }
 {
-    for (i, letter) in vector.iter().enumerate() {
-        if has(bars[i], *letter) {
-            return true;
-        }
-    }
-    false
+    let mut pairs = vector.iter().zip(bars);
+    pairs.any(|(letter, barred)| has(*barred, *letter))
 }
 
-// Writes the box without its barred letters into the first sets of `left`.
+// Writes the box without its barred letters over `left`.
 fn spare(bars: &[u64; 10], sets: &[u64], left: &mut [u64])
     requires { (length sets.now ≤ 10) × (length left.old ≡ length sets.now) }
     ensures { left.new ≡ spared bars.now sets.now }
 {
-    for (i, set) in sets.iter().enumerate() {
-        left[i] = *set ^ (*set & bars[i]);
-    }
+    left.copy_from_slice(sets);
+    rewrite(left, bars, |set, barred| set & !barred);
 }
 
 // Whether a set has no letter.
 fn has_gap(sets: &[u64]) -> bool
     ensures { result ≡ gap sets.now }
 {
-    for set in sets {
-        if *set == 0 {
-            return true;
-        }
-    }
-    false
+    sets.contains(&0)
 }
 
 impl<M: Measure> Measure for Bar<M> {
-    ghost distances = { λ m. bar_distance m.bars (M.Measure.distances m.below) };
+    ghost distances = { λ m. bar_distance m.bars (M.distances m.below) };
 
-    ghost floors = { λ m. bar_floor m.bars (M.Measure.floors m.below) };
+    ghost floors = { λ m. bar_floor m.bars (M.floors m.below) };
 
-    ghost rule = { λ m. bar_rule (M.Measure.distances m.below) (M.Measure.floors m.below) (M.Measure.rule m.below) m.bars };
+    ghost rule = { λ m. bar_rule (M.distances m.below) (M.floors m.below) (M.rule m.below) m.bars };
 
     fn distance(&self, query: &[u8], vector: &[u8]) -> Option<u32> {
         if !are_vectors(query, vector) || has_barred(&self.bars, vector) {
@@ -84,7 +74,7 @@ impl<M: Measure> Measure for Bar<M> {
             return None;
         }
         let mut room = [0u64; 10];
-        let left = &mut room[0..sets.len()];
+        let left = &mut room[..sets.len()];
         spare(&self.bars, sets, left);
         if has_gap(left) {
             return None;

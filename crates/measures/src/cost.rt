@@ -3,6 +3,8 @@ ghost use Rattle.std.specs.Prelude.{◌≡◌, ℕ, ◌<◌, ◌≤◌, length};
 ghost use Rattle.measures.specs.Costs.{CostRule, vectors, vector_and_box, vector_costs, box_costs, one_d};
 ghost use Rattle.space.specs.Boxes.{small};
 
+use space::DIMENSIONS;
+
 // What the query's letter costs in a dimension, counted from 0, beside a letter, and beside a set of letters.
 pub(crate) trait Cost {
     ghost letter_costs: { Self → ℕ → ℕ → ℕ → ℕ };
@@ -24,19 +26,14 @@ pub(crate) trait Cost {
 pub(crate) fn is_one_d(a: usize, b: usize) -> bool
     ensures { result ≡ one_d a b }
 {
-    1 <= a && a <= 10 && a == b
+    (1..=DIMENSIONS).contains(&a) && a == b
 }
 
 // Whether all letters are up to 63.
 pub(crate) fn is_small(letters: &[u8]) -> bool
     ensures { result ≡ small letters.now }
 {
-    for letter in letters {
-        if *letter > 63 {
-            return false;
-        }
-    }
-    true
+    letters.iter().all(|letter| *letter <= 63)
 }
 
 // Whether these are two vectors of one d.

@@ -4,10 +4,12 @@ ghost use Rattle.measures.specs.Counted.{counted, CountIs, Counting, NothingBeyo
 ghost use Rattle.measures.specs.Counts.{Shaped, number_at, one_at, limits};
 ghost use Rattle.measures.specs.Gehs.{geh_grade};
 ghost use Rattle.space.specs.Boxes.{small};
-ghost use Rattle.space.specs.Row.{rows_of};
 
 use crate::count::Count;
-use space::{Clip, Described, check_plan, check_vector};
+use space::{Described, check_plan, check_vector};
+
+// The most clips that a count can have.
+const MOST: usize = 4096;
 
 // Nothing is counted yet.
 fn no_numbers() -> [[u16; 64]; 10]
@@ -27,7 +29,7 @@ fn count_letters(numbers: &mut [[u16; 64]; 10], letters: &[u8])
     ensures numbers { (i l : ℕ) → number_at numbers.new i l ≡ number_at numbers.old i l + one_at i l letters.now }
 {
     for (i, letter) in letters.iter().enumerate() {
-        numbers[i][*letter as usize] += 1;
+        numbers[i][usize::from(*letter)] += 1;
     }
 }
 
@@ -35,7 +37,7 @@ fn count_letters(numbers: &mut [[u16; 64]; 10], letters: &[u8])
 fn is_within_limits(plan: &[u8], clips: usize) -> bool
     ensures { result ≡ limits plan.now clips }
 {
-    check_plan(plan).is_ok() && 1 <= clips && clips <= 4096
+    check_plan(plan).is_ok() && (1..=MOST).contains(&clips)
 }
 
 // No letter is counted beyond the dimensions of the plan.
@@ -57,15 +59,8 @@ impl Count {
         }
     }
 
-    // The count of a library of 1 to 4,096 clips of one plan; none of anything else.
-    pub fn of(plan: &[u8], clips: &[Clip]) -> Option<Count>
-        ensures { Counting plan.now (rows_of clips.now) result }
-    {
-        Count::of_described(plan, clips)
-    }
-
-    // The same count, of clips in any form that describes them.
-    pub fn of_described<C: Described>(plan: &[u8], clips: &[C]) -> Option<Count>
+    // The count of a library of 1 to 4,096 clips of one plan, in any form that describes them; none of anything else.
+    pub fn of<C: Described>(plan: &[u8], clips: &[C]) -> Option<Count>
         ensures { Counting plan.now (map (C.Described.row (length plan.now)) clips.now) result }
     {
         if !is_within_limits(plan, clips.len()) {
@@ -91,7 +86,7 @@ impl Count {
         ensures { result ≡ counted self.now dimension letter }
     {
         if dimension < 10 && letter < 64 {
-            u32::from(self.numbers[dimension][letter as usize])
+            u32::from(self.numbers[dimension][usize::from(letter)])
         } else {
             0
         }

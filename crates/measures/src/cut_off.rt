@@ -25,18 +25,15 @@ impl<M> CutOff<M> {
 pub fn up_to(limit: u32, answer: Option<u32>) -> Option<u32>
     ensures { result ≡ up_to limit answer }
 {
-    match answer {
-        Some(x) if x <= limit => Some(x),
-        _ => None,
-    }
+    answer.filter(|x| *x <= limit)
 }
 
 impl<M: Measure> Measure for CutOff<M> {
-    ghost distances = { λ m. cut_distance m.limit (M.Measure.distances m.below) };
+    ghost distances = { λ m. cut_distance m.limit (M.distances m.below) };
 
-    ghost floors = { λ m. cut_floor m.limit (M.Measure.floors m.below) };
+    ghost floors = { λ m. cut_floor m.limit (M.floors m.below) };
 
-    ghost rule = { λ m. cut_rule (M.Measure.distances m.below) (M.Measure.floors m.below) (M.Measure.rule m.below) m.limit };
+    ghost rule = { λ m. cut_rule (M.distances m.below) (M.floors m.below) (M.rule m.below) m.limit };
 
     fn distance(&self, query: &[u8], vector: &[u8]) -> Option<u32> {
         if are_vectors(query, vector) {

@@ -106,7 +106,7 @@ fn stored_counts(rt: HostRuntime) {
         stored(4, 0, 0),
     ];
     let mut count = Count::fresh();
-    if let Some(made) = Count::of_described(&[2, 2], &clips) {
+    if let Some(made) = Count::of(&[2, 2], &clips) {
         count = made;
     }
     assert_eq!(rt; count.number(0, 0), 3);
@@ -115,7 +115,7 @@ fn stored_counts(rt: HostRuntime) {
     assert_eq!(rt; count.number(1, 7), 0);
     assert_eq!(rt; count.number(2, 7), 0);
     assert_eq!(rt; count.grade(16), 2);
-    assert!(rt; Count::of_described(&[2, 2, 7], &clips).is_none());
+    assert!(rt; Count::of(&[2, 2, 7], &clips).is_none());
 }
 
 #[test]

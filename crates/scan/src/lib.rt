@@ -33,7 +33,7 @@ fn put_find(distance: Option<u32>, clip: u32, slots: &mut [Find], found: usize) 
 // The first clips that have a distance, by distance, then the lower number, go into the first slots, as many as there are slots; the
 // answer is how many these are. The other slots keep what they had.
 pub fn nearest<M: Measure>(measure: &M, query: &[u8], clips: &[Clip], slots: &mut [Find]) -> usize
-    ensures { Nearest (far_by (M.Measure.distances measure.now) query.now) (rows_of clips.now) slots.old slots.new result }
+    ensures { Nearest (far_by (M.distances measure.now) query.now) (rows_of clips.now) slots.old slots.new result }
 {
     let mut found = 0;
     for clip in clips {
@@ -52,7 +52,7 @@ pub fn within<M: Measure>(
     clips: &[Clip],
     slots: &mut [Find],
 ) -> usize
-    ensures { Hits (far_by (M.Measure.distances measure.now) query.now) radius (rows_of clips.now) slots.old slots.new result }
+    ensures { Hits (far_by (M.distances measure.now) query.now) radius (rows_of clips.now) slots.old slots.new result }
 {
     let mut found = 0;
     for clip in clips {

@@ -1,5 +1,5 @@
 -- Lists written anew by what stood there and by another list.
-use Rattle.std.proofs.Common.{◌≡◌, ℕ, zero, suc, ◌<◌, ◌≤◌, List, [], ◌∷◌, length, get_or, sym, refl, ap, ◌∙◌, ap₂, arith}
+use Rattle.std.proofs.Common.{◌≡◌, ℕ, suc, List, [], ◌∷◌, sym, refl, ◌∙◌, ap₂, arith}
 use lib.Bits.{bit_or}
 use Rattle.space.specs.Boxes.{join, only}
 use Rattle.space.specs.Rewritten.{Rewritten}
@@ -7,7 +7,7 @@ use Rattle.space.proofs.Sets.{pointed, fill_nil}
 
 module _ {Y : Type 0} (R : ℕ → Y → ℕ → Type 0) where
   -- what is left of the lists behind their first elements
-  behind : (x y : ℕ) (z : Y) (old new : List ℕ) (other : List Y) → Rewritten R (x ∷ old) (z ∷ other) (y ∷ new) → Rewritten R old other new
+  pub behind : (x y : ℕ) (z : Y) (old new : List ℕ) (other : List Y) → Rewritten R (x ∷ old) (z ∷ other) (y ∷ new) → Rewritten R old other new
   behind x y z old new other w = record {
     long = omega (arith, w.long);
     written = λ k d h l. w.written (suc k) d (omega arith) (omega arith);

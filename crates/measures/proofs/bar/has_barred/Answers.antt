@@ -1,20 +1,12 @@
-use Rattle.std.proofs.Common.{drop, sym, ◌∙◌, arith}
-use Rattle.std.proofs.lemmas.Bool.Decides.{nat_tests}
-use Rattle.measures.specs.Layers.{barred}
-use Rattle.space.proofs.Steps.{two_more, one_all}
+use Rattle.std.proofs.Common.{rules, ◌∙◌}
+use Rattle.std.proofs.lemmas.Iterator.{YieldsList-from_slice, YieldsList-from_zip}
+use Rattle.std.proofs.lemmas.Iterator.Search.{any_from_yields_List}
+use Rattle.space.specs.Boxes.{has}
+use Rattle.measures.proofs.Tests.{barred_any}
 use Rattle.measures.proofs.bar.has_barred.Goals as goal
 
-pub returns-then-has : goal.returns-then-has
-returns-then-has c =
-    let m = two_more barred c.args.bars.now c.args.vector.now c.loop-i.i (omega arith) (omega arith) in
-    let e = c.if-has.ensures in
-    grind (arith, nat_tests)
-
-pub loop-i-preserved : goal.loop-i-preserved
-loop-i-preserved c =
-    let m = two_more barred c.args.bars.now c.args.vector.now c.loop-i.i (omega arith) (omega arith) in
-    let e = c.if-has.ensures in
-    grind (arith, nat_tests)
-
 pub returns : goal.returns
-returns c = sym (one_all (barred (drop c.loop-i.i c.args.bars.now)) c.args.vector.now c.loop-i.i (omega arith)) ∙ c.loop-i.invariant
+returns c =
+    let v = c.args.vector.now in let bars = c.args.bars.now in
+    any_from_yields_List (λ p. has p.1 p.0) c.any.new.self _ _ c.any.ensures.ran (YieldsList-from_zip (YieldsList-from_slice v cc) (YieldsList-from_slice bars cc)) (λ x b q k. search rules)
+    ∙ barred_any bars v

@@ -3,11 +3,11 @@ use Rattle.measures.specs.Sums.{small_at}
 use Rattle.measures.proofs.Tallies.{tallied_none, tallied_more, tallied_all}
 use Rattle.measures.proofs.counting.count_letters.Goals as goal
 
-pub bounds-numbers-letter : goal.bounds-numbers-letter
-bounds-numbers-letter c = let s = small_at c.args.letters.now c.loop-i.i c.requires.small in omega arith
+pub bounds-numbers-from : goal.bounds-numbers-from
+bounds-numbers-from c = let s = small_at c.args.letters.now c.loop-i.i c.requires.small in omega arith
 
-pub bounds-numbers-letter-in-loop-i : goal.bounds-numbers-letter-in-loop-i
-bounds-numbers-letter-in-loop-i c = let s = small_at c.args.letters.now c.loop-i.i c.requires.small in omega arith
+pub bounds-numbers-from-in-loop-i : goal.bounds-numbers-from-in-loop-i
+bounds-numbers-from-in-loop-i c = let s = small_at c.args.letters.now c.loop-i.i c.requires.small in omega arith
 
 pub loop-i-init : goal.loop-i-init
 loop-i-init c = tallied_none c.args.numbers.now c.args.letters.now c.requires.shape
@@ -15,7 +15,8 @@ loop-i-init c = tallied_none c.args.numbers.now c.args.letters.now c.requires.sh
 pub loop-i-preserved : goal.loop-i-preserved
 loop-i-preserved c =
     let s = small_at c.args.letters.now c.loop-i.i c.requires.small in
-    tallied_more c.args.numbers.now c.args.letters.now c.loop-i.numbers c.loop-i.i c.loop-i.invariant (omega arith) (omega arith)
+    let e = c.from.ensures in
+    rw e (tallied_more c.args.numbers.now c.args.letters.now c.loop-i.numbers c.loop-i.i c.loop-i.invariant (omega arith) (omega arith))
 
 pub returns : goal.returns
 returns c =

@@ -3,7 +3,7 @@ use lib.ListN.{length-map}
 use Rattle.std.proofs.lemmas.Bool.{and_from}
 use Rattle.measures.specs.Counts.{limits, of_plan}
 use Rattle.measures.proofs.Countings.{limits_parts, limits_rows, not_limits, not_plan, fault_some, fault_none, vector_small, plan_dimensions, count_most, row_at, counted_none, counted_few, counted_stop, counted_more, counted_all}
-use Rattle.measures.proofs.count.Count.of_described.Goals as goal
+use Rattle.measures.proofs.count.Count.of.Goals as goal
 
 pub returns-then-not-is_within_limits : goal.returns-then-not-is_within_limits
 returns-then-not-is_within_limits g c =
