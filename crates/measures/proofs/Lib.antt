@@ -1,4 +1,4 @@
 pub mod Tallies
 pub mod Countings
-pub mod Tests
+pub mod Lists
 pub mod Spares

@@ -82,10 +82,6 @@ tallied_more old v t i s h k =
 pub tallied_all : (old : List (List ℕ)) (v : List ℕ) (t : List (List ℕ)) (i : ℕ) → Tallied old v t i → i ≡ length v → (j l : ℕ) → number_at t j l ≡ number_at old j l + one_at j l v
 tallied_all old v t i s e j l = s.numbers j l ∙ ap (λ n. number_at old j l + cond (ltb j n && eqb (get_or v j 0) l) 1 0) e
 
--- one more does not pass what fits
-pub tallied_fits : (old : List (List ℕ)) (v : List ℕ) (t : List (List ℕ)) (i j l : ℕ) → Tallied old v t i → number_at old j l ≤ 4096 → number_at t j l ≤ 4097
-tallied_fits old v t i j l s h = let n = s.numbers j l in grind (arith, nat_tests)
-
 -- no number stands beyond the table
 pub beyond_table : (t : List (List ℕ)) (i l : ℕ) → Shaped t → ((i < 10) × (64 ≤ l)) ⊎ (10 ≤ i) → number_at t i l ≡ 0
 beyond_table t i l s (inl h) = get_or_past (get_or t i []) l 0 (let n = s.1 i h.0 in let m = h.1 in omega arith)

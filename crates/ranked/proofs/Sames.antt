@@ -36,9 +36,6 @@ same_swap (x ∷ xs) ys = then (keep (same_swap xs ys)) (same_sym (same_to_front
 pub same_before : {X : Type 0} {ys zs : List X} (xs : List X) → Same ys zs → Same (ys ++ xs) (zs ++ xs)
 same_before {ys = ys} {zs = zs} xs s = then (same_swap ys xs) (then (same_after xs s) (same_swap xs zs))
 
-pub same_both : {X : Type 0} {xs ys us vs : List X} → Same xs ys → Same us vs → Same (xs ++ us) (ys ++ vs)
-same_both {ys = ys} {us = us} s t = then (same_before us s) (same_after ys t)
-
 -- of three lists the first two change places
 pub same_rotate : {X : Type 0} (xs ys zs : List X) → Same (xs ++ (ys ++ zs)) (ys ++ (xs ++ zs))
 same_rotate xs ys zs =

@@ -1,11 +1,11 @@
 -- Areas and common areas.
-use Rattle.std.proofs.Common.{◌≡◌, ℕ, suc, ◌+◌, ◌*◌, ◌^◌, ◌<◌, ◌≤◌, Bool, true, false, cond, ◌&&◌, eqb, ltb, leb, List, [], ◌∷◌, length, get_or, drop, Some, sym, refl, ap, ◌∙◌, mul_assoc, mul_comm, mul-le-mul, pow-suc, mul-zero, zero-mul, mul-one, add-one, arith}
+use Rattle.std.proofs.Common.{◌≡◌, ℕ, suc, ◌+◌, ◌*◌, ◌^◌, ◌<◌, ◌≤◌, Bool, true, false, cond, eqb, ltb, leb, List, [], ◌∷◌, length, get_or, drop, sym, refl, ap, ◌∙◌, mul_assoc, mul_comm, mul-le-mul, pow-suc, zero-mul, mul-one, add-one, arith}
 use native.Mathlib.Nat.{pow-le-pow_right}
 use lib.Bits.{bit_and, and_le_l}
 use lib.Count.{ones, ones-le}
-use Rattle.std.proofs.lemmas.Bool.{eqb-true, eq-eqb, ne_eqb, leb-true, ltb-true, and_parts, and_from}
-use Rattle.space.specs.Boxes.{area, common, meet, dimensions, words, given, common_of}
-use Rattle.space.proofs.Steps.{one_more, one_all, two_more, two_all}
+use Rattle.std.proofs.lemmas.Bool.{eqb-true, leb-true, ltb-true, and_parts}
+use Rattle.space.specs.Boxes.{area, common, meet, dimensions, words}
+use Rattle.space.proofs.Steps.{one_more, one_all}
 
 -- from 1 to 10
 pub dimensions_most : (d : ℕ) → dimensions d ≡ true → d ≤ 10
@@ -30,23 +30,6 @@ area_more n i b h = ap (λ x. n * x) (one_more area b 0 i h) ∙ sym (mul_assoc 
 pub area_all : (n i : ℕ) (b : List ℕ) → length b ≤ i → n * area (drop i b) ≡ n
 area_all n i b h = ap (λ x. n * x) (one_all area b i h) ∙ mul-one n
 
-module _ (n i : ℕ) (a b : List ℕ) (h : i < length a) (k : i < length b) where
-  pub common_none : ones (bit_and (get_or a i 0) (get_or b i 0)) ≡ 0 → n * common (drop i a) (drop i b) ≡ 0
-  common_none z =
-      let t : eqb (ones (bit_and (get_or a i 0) (get_or b i 0))) 0 ≡ true = eq-eqb _ 0 z in
-      let rest = common (drop (i + 1) a) (drop (i + 1) b) in
-      ap (λ y. n * y) (two_more common a b i h k ∙ ap (λ u. cond u 0 (ones (bit_and (get_or a i 0) (get_or b i 0)) * rest)) t) ∙ mul-zero n
-
-  pub common_more : (x : ℕ) → x ≡ ones (bit_and (get_or a i 0) (get_or b i 0)) → (x ≡ 0 → ⊥) → n * common (drop i a) (drop i b) ≡ (n * x) * common (drop (i + 1) a) (drop (i + 1) b)
-  common_more x e z =
-      let t : eqb (ones (bit_and (get_or a i 0) (get_or b i 0))) 0 ≡ false = ne_eqb _ 0 (λ q. z (e ∙ q)) in
-      let rest = common (drop (i + 1) a) (drop (i + 1) b) in
-      ap (λ y. n * y) (two_more common a b i h k ∙ ap (λ u. cond u 0 (ones (bit_and (get_or a i 0) (get_or b i 0)) * rest)) t ∙ ap (λ y. y * rest) (sym e))
-      ∙ sym (mul_assoc n x rest)
-
-pub common_all : (n i : ℕ) (a b : List ℕ) → length a ≤ i → length b ≤ i → n * common (drop i a) (drop i b) ≡ n
-common_all n i a b h k = ap (λ x. n * x) (two_all common a b i h k) ∙ mul-one n
-
 -- a common area is a product, also where it stops early
 pub common_product : (m n : ℕ) (a b : List ℕ) → common (m ∷ a) (n ∷ b) ≡ ones (bit_and m n) * common a b
 common_product m n a b = go (eqb (ones (bit_and m n)) 0) refl
@@ -68,13 +51,6 @@ common_meet (m ∷ a) (n ∷ b) h = go (common_meet a b (omega arith)) (eqb (one
 -- two sets have at most 64 letters in common
 pub common_few : (m n : ℕ) → m < 2 ^ 64 → ones (bit_and m n) ≤ 64
 common_few m n h = let l = and_le_l m n in ones-le 64 (bit_and m n) (omega arith)
-
--- the answer where both are boxes of one d
-pub common_given : (a b : List ℕ) (x : ℕ) → dimensions (length a) ≡ true → length a ≡ length b → x ≡ common a b → x ≤ 64 ^ length a
-    → record { value : Some x ≡ common_of a b; area : Some x ≡ Some (area (meet a b)); most : x ≤ 64 ^ length a }
-common_given a b x d e h m =
-    let t : (dimensions (length a) && eqb (length a) (length b)) ≡ true = and_from (dimensions (length a)) _ d (eq-eqb _ _ e) in
-    record { value = ap Some h ∙ ap (λ u. given u (common a b)) (sym t); area = ap Some (h ∙ common_meet a b e); most = m }
 
 -- no area of d sets is above 64 ^ d
 pub area_most : (b : List ℕ) → words b ≡ true → area b ≤ 64 ^ length b

@@ -1,6 +1,7 @@
 -- The smallest box around some boxes, and the vectors in it.
 use Rattle.std.proofs.Common.{◌≡◌, ℕ, zero, suc, ◌<◌, Bool, true, false, ◌||◌, leb, List, [], ◌∷◌, ◌++◌, length, get_or, replicate, sym, refl, ap, ◌∙◌, ap₂, arith}
 use lib.Bits.{bit_or}
+use Rattle.std.proofs.Math.Bool.{or_assoc}
 use Rattle.std.specs.List.{AllByRecursion}
 use Rattle.std.proofs.lemmas.List.{length-replicate, get_or-replicate, take_all, drop_all, append-nil}
 use Rattle.std.proofs.lemmas.Bool.{and_parts, and_from, or_left, or_right, leb-true}
@@ -29,10 +30,6 @@ get_or_join (m ∷ a) (n ∷ b) (suc i) h k = get_or_join a b i (omega arith) (o
 -- a dimension of the join has the letters of the one or the other
 pub join_letters : (a b : List ℕ) → BothLetters a b (join a b)
 join_letters a b i l h k = ap (λ m. has m l) (get_or_join a b i h k) ∙ union_has (get_or a i 0) (get_or b i 0) l
-
-or_assoc : (x y z : Bool) → ((x || y) || z) ≡ (x || (y || z))
-or_assoc true y z = refl
-or_assoc false y z = refl
 
 pub joined_has : (d : ℕ) (a : List ℕ) (bs : List (List ℕ)) (i l : ℕ) → length a ≡ d → AllByRecursion (λ b. length b ≡ d) bs → i < d
     → has (get_or (joined a bs) i 0) l ≡ (has (get_or a i 0) l || occurs i l bs)

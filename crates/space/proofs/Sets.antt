@@ -1,13 +1,12 @@
 -- Sets of letters.
-use Rattle.std.proofs.Common.{◌≡◌, ℕ, zero, suc, ◌/◌, ◌%◌, ◌^◌, ◌<◌, ◌≤◌, true, false, cond, ◌&&◌, ◌||◌, eqb, ◌⊎◌, List, [], ◌∷◌, length, drop, sym, refl, ap, ◌∙◌, inl, inr, arith, pow_mono}
+use Rattle.std.proofs.Common.{◌≡◌, ℕ, zero, suc, ◌/◌, ◌%◌, ◌^◌, ◌<◌, ◌≤◌, true, false, cond, ◌&&◌, ◌||◌, eqb, List, [], ◌∷◌, length, refl, ap, ◌∙◌, arith, pow_mono}
 use native.Mathlib.Nat.{zero-div, div_self, div-eq_of_lt}
 use lib.Bits.{bit_and, bit_or}
 use Rattle.std.proofs.lemmas.Nat.{and_mask, or_shr, and_shr, or_mod, and_mod, pow_pos}
-use Rattle.std.proofs.lemmas.List.{drop_all}
 use Rattle.std.proofs.lemmas.Bool.{lt-ltb}
 use Rattle.std.proofs.lemmas.Bool.Decides.{nat_tests}
 use Rattle.std.specs.List.{zip, list_all}
-use Rattle.space.specs.Boxes.{has, in_box, join, only, point, filled}
+use Rattle.space.specs.Boxes.{has, in_box, only, point, filled}
 
 -- ---- one set
 
@@ -77,15 +76,6 @@ in_zip [] (m ∷ b) e = absurd (omega arith)
 in_zip (l ∷ v) [] e = absurd (omega arith)
 in_zip (l ∷ v) (m ∷ b) e = ap (λ t. has m l && t) (in_zip v b (omega arith))
 
-join_nil : (a : List ℕ) → join a [] ≡ a
-join_nil [] = refl
-join_nil (m ∷ a) = refl
-
--- past the end of either box
-pub join_all : (a b : List ℕ) (i : ℕ) → (length a ≤ i) ⊎ (length b ≤ i) → join (drop i a) (drop i b) ≡ drop i a
-join_all a b i (inl h) = let e = drop_all i a h in ap (λ t. join t (drop i b)) e ∙ sym e
-join_all a b i (inr h) = ap (join (drop i a)) (drop_all i b h) ∙ join_nil (drop i a)
-
 pub fill_nil : (s : List ℕ) → filled {X = ℕ} [] s ≡ s
 fill_nil [] = refl
 fill_nil (x ∷ s) = refl
@@ -93,13 +83,3 @@ fill_nil (x ∷ s) = refl
 -- the box of a vector, written over some sets
 abbrev pub pointed : List ℕ → List ℕ → List ℕ
 pointed s v = filled (point v) s
-
-pub pointed_all : (s v : List ℕ) (i : ℕ) → (length s ≤ i) ⊎ (length v ≤ i) → pointed (drop i s) (drop i v) ≡ drop i s
-pointed_all s v i (inr h) = ap (pointed (drop i s)) (drop_all i v h) ∙ fill_nil (drop i s)
-pointed_all s v i (inl h) =
-    let e = drop_all i s h in
-    ap (λ t. pointed t (drop i v)) e ∙ drop_nil (length (point (drop i v))) ∙ sym e
-  where
-    drop_nil : (n : ℕ) → drop {A = ℕ} n [] ≡ []
-    drop_nil zero = refl
-    drop_nil (suc n) = refl

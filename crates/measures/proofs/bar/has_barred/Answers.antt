@@ -2,7 +2,7 @@ use Rattle.std.proofs.Common.{rules, ◌∙◌}
 use Rattle.std.proofs.lemmas.Iterator.{YieldsList-from_slice, YieldsList-from_zip}
 use Rattle.std.proofs.lemmas.Iterator.Search.{any_from_yields_List}
 use Rattle.space.specs.Boxes.{has}
-use Rattle.measures.proofs.Tests.{barred_any}
+use Rattle.measures.proofs.Lists.{barred_any}
 use Rattle.measures.proofs.bar.has_barred.Goals as goal
 
 pub returns : goal.returns

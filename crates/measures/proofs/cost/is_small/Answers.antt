@@ -1,7 +1,7 @@
 use Rattle.std.proofs.Common.{rules, leb, ◌∙◌}
 use Rattle.std.proofs.lemmas.Iterator.{YieldsList-from_slice}
 use Rattle.std.proofs.lemmas.Iterator.Search.{all_from_yields_List}
-use Rattle.measures.proofs.Tests.{small_all}
+use Rattle.measures.proofs.Lists.{small_all}
 use Rattle.measures.proofs.cost.is_small.Goals as goal
 
 pub returns : goal.returns
