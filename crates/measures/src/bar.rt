@@ -24,11 +24,9 @@ impl<M> Bar<M> {
 }
 
 // A box that loses its barred letters keeps just its other letters.
-pub fn bar_spares_stands() -> u8
+pub fn bar_spares_stands()
     ensures { WithoutHas }
-{
-    0
-}
+{}
 
 // Whether the vector has a barred letter.
 fn has_barred(bars: &[u64; 10], vector: &[u8]) -> bool

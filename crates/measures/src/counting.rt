@@ -41,11 +41,9 @@ fn is_within_limits(plan: &[u8], clips: usize) -> bool
 }
 
 // No letter is counted beyond the dimensions of the plan.
-pub fn nothing_beyond_stands() -> u8
+pub fn nothing_beyond_stands()
     ensures { NothingBeyond }
-{
-    0
-}
+{}
 
 impl Count {
     // A count of one dimension and one clip in which every number is 0.

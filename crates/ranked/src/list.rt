@@ -1,7 +1,7 @@
 // A list in rank is the front of a slice; what lies behind the front is left alone.
 ghost use Rattle.std.specs.Prelude.{◌≡◌, ◌+◌, ◌≤◌, min, ◌∷◌, ◌++◌, length, take, drop, nat_lt};
 ghost use Rattle.ranked.specs.LawsRank.{RankingStands};
-ghost use Rattle.ranked.specs.Rank.{InRank, keep_first, place, rank_of, ranked};
+ghost use Rattle.ranked.specs.Rank.{InRank, Order, Tie, keep_first, place, rank_of, ranked};
 ghost use Rattle.std.specs.List.{insert};
 
 use crate::order::Ranked;
@@ -59,11 +59,12 @@ pub fn insert_all<T: Ranked>(list: &mut [T], len: usize, items: &[T]) -> usize
 
 // The ranking of a list is the one list in rank with its elements, and a list that is cut off at each insertion keeps just its front,
 // whatever order the entries come in.
-pub fn ranking_stands<T: Ranked>() -> u8
-    ensures { RankingStands T.before }
-{
-    0
-}
+// Standing before is an order, and of two entries of which neither stands before the other both are one value.
+pub fn ranking_stands<T: Ranked>()
+    ensures order { Order T.before }
+    ensures tie { Tie T.before }
+    ensures ranking { RankingStands T.before }
+{}
 
 // Puts a whole list of numbers in rank.
 pub fn sort_words(list: &mut [u64])

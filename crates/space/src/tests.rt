@@ -28,6 +28,15 @@ fn joined_boxes(rt: HostRuntime) {
 }
 
 #[test]
+fn rewritten_sets(rt: HostRuntime) {
+    let mut sets = [7u64, 6, 5];
+    rewrite(&mut sets, &[4u64, 2], |set, barred| set & !barred);
+    assert_eq!(rt; sets, [3u64, 4, 5]);
+    rewrite(&mut sets, &[1u64, 2, 3, 4], |set, more| set | more);
+    assert_eq!(rt; sets, [3u64, 6, 7]);
+}
+
+#[test]
 fn box_of_a_vector(rt: HostRuntime) {
     let mut sets = [9u64; 3];
     point(&mut sets, &[0, 63]);

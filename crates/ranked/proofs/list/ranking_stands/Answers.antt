@@ -6,4 +6,6 @@ pub returns : goal.returns
 returns g c =
     let before = g.T.Ranked.before in
     let law = g.met.T.Ranked in
-    ranking_stands before (order_by g.T.Ord.cmp before g.met.T.Ord.total law.by_cmp) (tie_by g.T.Ord.cmp before g.met.T.Ord.total law.by_cmp law.tie)
+    let o = order_by g.T.Ord.cmp before g.met.T.Ord.total law.by_cmp in
+    let t = tie_by g.T.Ord.cmp before g.met.T.Ord.total law.by_cmp law.tie in
+    record { order = o; tie = t; ranking = ranking_stands before o t }
