@@ -1,7 +1,8 @@
 -- Lists, with nothing of the catalogue.
-use Rattle.std.proofs.Common.{◌≡◌, ℕ, ◌+◌, ◌-◌, ◌<◌, Bool, true, false, List, [], ◌∷◌, ◌++◌, map, length, get_or, take, set, sym, refl, ap, ◌∙◌, ap₂, arith}
+use Rattle.std.proofs.Common.{◌≡◌, ℕ, ◌+◌, ◌-◌, ◌<◌, ◌≤◌, suc, Bool, true, false, List, [], ◌∷◌, ◌++◌, map, length, get_or, take, replicate, set, sym, refl, ap, ◌∙◌, ap₂, arith}
 use mathlib.Core.Bool.{beq}
 use Rattle.rules.specs.Division.{alike}
+use Rattle.std.proofs.Math.Seq.{take-append-add}
 use Rattle.std.proofs.lemmas.List.{take_more, take_more_set, map_push}
 
 pub map_map : {X Y Z : Type 0} (f : Y → Z) (g : X → Y) (xs : List X) → map f (map g xs) ≡ map (λ x. f (g x)) xs
@@ -28,3 +29,9 @@ alike_beq false false = refl
 
 pub cut : {X : Type 0} (n : ℕ) (xs : List X) → take (n - 0) xs ≡ take n xs
 cut n xs = let z : n - 0 ≡ n = omega arith in ap (λ m. take m xs) z
+
+-- some entries, and in the place behind them one more
+pub one_more : {X : Type 0} (xs : List X) (x : X) → length xs ≤ 8 → take (length xs + 1) (xs ++ replicate (9 - length xs) x) ≡ xs ++ x ∷ []
+one_more xs x l =
+    let e : 9 - length xs ≡ suc (8 - length xs) = omega arith in
+    take-append-add xs (replicate (9 - length xs) x) 1 ∙ ap (λ m. xs ++ take 1 (replicate m x)) e

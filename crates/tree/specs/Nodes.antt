@@ -1,5 +1,6 @@
 -- What a table of nodes stands for.
 use Rattle.std.specs.Prelude.{◌≡◌, ℕ, zero, suc, ◌+◌, ◌<◌, ◌≤◌, Bool, true, cond, List, [], ◌∷◌, map, length, take, replicate, Some, None, Option, ◌==◌, ◌≢◌, slice_index, slice_index_or, slice_set}
+use Rattle.std.proofs.Common.{lit≤}
 use Rattle.space.specs.Boxes.{around}
 use Rattle.std.specs.List.{AllByRecursion}
 use Rattle.rules.specs.Choice.{chosen}
@@ -14,7 +15,7 @@ use Rattle.tree.specs.declared.node.Node.{Node}
 
 -- what the checker reads past the end of a table
 abbrev pub no_node : Node
-no_node = record { sets = []; len = 0; entries = [] }
+no_node = record { sets = []; len = 0; entries = []; few = lit≤ tt }
 
 abbrev pub no_clip : StoredClip
 no_clip = record { number = 0; letters = replicate 10 0 }

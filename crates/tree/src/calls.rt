@@ -16,7 +16,7 @@ use crate::index::Index;
 use crate::leaving::withdraw_listed;
 use crate::lookup::is_listed;
 use crate::node::{NodeEntry, Root};
-use crate::starting::ten_of;
+use crate::padded::padded;
 use refusals::{Refusal, StateFault};
 use space::{ClipFault, StoredClip, check_clip};
 
@@ -28,7 +28,7 @@ fn store_clip(plan: &[u8], number: u32, letters: &[u8]) -> Result<StoredClip, Cl
     check_clip(plan, number, letters)?;
     Ok(StoredClip {
         number,
-        letters: ten_of(letters),
+        letters: padded(letters, 0),
     })
 }
 
@@ -38,7 +38,7 @@ impl Index {
         ensures value { result.now ≡ plan_of self.now }
         ensures axes { dimensions (length result.now) ≡ true }
     {
-        &self.sizes[0..self.dims]
+        &self.sizes[..self.dims]
     }
 
     // Whether a clip of that number is listed. One above the highest is not, so that clips in rising number are entered without a look at all.

@@ -5,7 +5,7 @@ ghost use Rattle.tree.specs.Leaving.{EachOnce, EnteredClip};
 ghost use Rattle.tree.specs.Nodes.{Sound, Lettered, EnteredBelow, EnteredRoot, times, held, inside, node, no_entry, spot, place_in, place_of};
 
 use crate::choice::choose;
-use crate::node::{Node, NodeEntry, place_in};
+use crate::node::{Node, NodeEntry};
 use crate::writing::{add_entry, boxes_of, rebox, write_node};
 use space::StoredClip;
 
@@ -21,15 +21,15 @@ pub(crate) fn choose_child(
     requires clip { Lettered clip }
     requires within { at < length nodes.now }
     requires some { 0 < (node nodes.now at).len }
-    requires few { (node nodes.now at).len ≤ 8 }
     requires sound { AllByRecursion (Sound nodes.now height) (inside (node nodes.now at)) }
     ensures place { place_of dims nodes.now height at clip < length (inside (node nodes.now at)) }
     ensures child { result ≡ place_in (slice_index_or (inside (node nodes.now at)) (place_of dims nodes.now height at clip) no_entry) }
 {
-    let n = nodes[at];
-    let boxes = boxes_of(nodes, dims, height, &n.entries[0..n.len]);
-    let place = choose(&boxes[0..n.len], dims, clip.letters);
-    place_in(n.entries[place])
+    let node = nodes[at];
+    let entries = node.entries();
+    let boxes = boxes_of(nodes, dims, height, entries);
+    let place = choose(&boxes[..entries.len()], dims, clip.letters);
+    entries[place].place()
 }
 
 // Enters a clip below the node `at`, which stands `height` above the leaves, and says how many of the spare nodes it used.

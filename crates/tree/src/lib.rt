@@ -14,6 +14,7 @@ mod listing;
 mod lookup;
 mod making;
 mod node;
+mod padded;
 mod starting;
 mod table;
 #[cfg(test)]

@@ -7,7 +7,7 @@ ghost use Rattle.tree.specs.Listing.{Copied, Listed, Ordered, clip_of, keys_from
 ghost use Rattle.tree.specs.Seen.{tree_in};
 
 use crate::index::Index;
-use crate::node::{Node, NodeEntry, clip_in, place_in};
+use crate::node::{Node, NodeEntry};
 use ranked::sort_words;
 use space::StoredClip;
 
@@ -30,15 +30,13 @@ pub(crate) fn copy_clips(
     ensures { Copied nodes.now height e out.old out.new n result }
 {
     if height == 0 {
-        out[n] = clip_in(e);
+        out[n] = e.clip();
         return n + 1;
     }
-    let at = place_in(e);
-    let node = nodes[at];
-    let es = &node.entries[0..node.len];
+    let node = nodes[e.place()];
     let mut many = n;
-    for k in 0..es.len() {
-        many = copy_clips(nodes, height - 1, es[k], out, many);
+    for entry in node.entries() {
+        many = copy_clips(nodes, height - 1, *entry, out, many);
     }
     many
 }

@@ -9,6 +9,7 @@ ghost use Rattle.tree.specs.Tables.{table_boxes};
 
 use crate::index::Index;
 use crate::node::Root;
+use crate::padded::padded;
 use crate::table::Table;
 use crate::writing::write_node;
 use refusals::{FitFault, Refusal};
@@ -31,16 +32,6 @@ pub fn fit(plan: &[u8], capacity: u32, boxes: usize) -> Result<(), Refusal>
     Ok(())
 }
 
-// Up to ten bytes, and zeros behind them.
-pub(crate) fn ten_of(bytes: &[u8]) -> [u8; 10]
-    requires { length bytes.now ≤ 10 }
-    ensures { result ≡ bytes.now ++ replicate (10 - length bytes.now) 0 }
-{
-    let mut ten = [0; 10];
-    ten[..bytes.len()].copy_from_slice(bytes);
-    ten
-}
-
 impl Index {
     // An empty index of that plan and capacity in the table: its root is an empty leaf.
     pub fn start(plan: &[u8], capacity: u32, table: Table) -> Result<Index, Refusal>
@@ -48,7 +39,7 @@ impl Index {
         ensures made { IfOk result (λ x. (seen_index x ≡ standing plan.now capacity (empty (length plan.now))) × (index_boxes x ≡ table_boxes table)) }
     {
         fit(plan, capacity, table.boxes())?;
-        let sizes = ten_of(plan);
+        let sizes = padded(plan, 0);
         let Table { mut nodes, free } = table;
         write_node(&mut nodes, plan.len(), 0, 0, &[]);
         Ok(Index {

@@ -7,7 +7,7 @@ ghost use Rattle.tree.specs.Nodes.{Sound, Written, times, inside, node, spot, cl
 use crate::aside::lay_aside;
 use crate::division::group_of;
 use crate::lookup::{child_of, holder_of};
-use crate::node::{Node, NodeEntry, clip_in, place_in};
+use crate::node::{Node, NodeEntry};
 use crate::writing::{rebox, write_node};
 
 // Moves the tree of an entry out: its clips to the worklist, the places of its nodes to the stack.
@@ -27,17 +27,16 @@ pub(crate) fn set_aside(
     ensures { SetAside nodes.now height e words.old words.new n result.0 free.old free.new top result.1 }
 {
     if height == 0 {
-        lay_aside(words, n, clip_in(e));
+        lay_aside(words, n, e.clip());
         return (n + 1, top);
     }
-    let at = place_in(e);
+    let at = e.place();
     let node = nodes[at];
-    let es = &node.entries[0..node.len];
     free[top - 1] = at;
     let mut many = n;
     let mut high = top - 1;
-    for k in 0..es.len() {
-        let (a, b) = set_aside(nodes, height - 1, es[k], words, many, free, high);
+    for entry in node.entries() {
+        let (a, b) = set_aside(nodes, height - 1, *entry, words, many, free, high);
         many = a;
         high = b;
     }
@@ -48,8 +47,7 @@ pub(crate) fn set_aside(
 pub(crate) fn keeps(e: NodeEntry, number: u32) -> bool
     ensures { result ≡ not ((clip_in e).number == number) }
 {
-    let c = clip_in(e);
-    c.number != number
+    e.clip().number != number
 }
 
 // The entries of a leaf but those of that number.
@@ -59,9 +57,9 @@ pub(crate) fn other_clips(entries: &[NodeEntry], number: u32) -> ([NodeEntry; 8]
 {
     let mut out = [NodeEntry::Free; 8];
     let mut n = 0;
-    for i in 0..entries.len() {
-        if keeps(entries[i], number) {
-            out[n] = entries[i];
+    for entry in entries {
+        if keeps(*entry, number) {
+            out[n] = *entry;
             n += 1;
         }
     }
@@ -71,28 +69,26 @@ pub(crate) fn other_clips(entries: &[NodeEntry], number: u32) -> ([NodeEntry; 8]
 // Makes a leaf anew without the clips of that number.
 pub(crate) fn remove_clip(nodes: &mut [Node], dims: usize, at: usize, number: u32)
     requires axes { dims ≤ 10 }
-    requires few { (node nodes.old at).len ≤ 8 }
     requires sound { AllByRecursion (Sound nodes.old 0) (inside (node nodes.old at)) }
     requires within { at < length nodes.old }
     ensures { Written dims nodes.old nodes.new 0 at (kept number (inside (node nodes.old at))) }
 {
     let n = nodes[at];
-    let (stay, m) = other_clips(&n.entries[0..n.len], number);
-    write_node(nodes, dims, 0, at, &stay[0..m]);
+    let (stay, m) = other_clips(n.entries(), number);
+    write_node(nodes, dims, 0, at, &stay[..m]);
 }
 
 // Makes the node `at` anew without its entry at p.
 pub(crate) fn remove_entry(nodes: &mut [Node], dims: usize, height: usize, at: usize, p: usize)
     requires axes { dims ≤ 10 }
-    requires few { (node nodes.old at).len ≤ 8 }
     requires place { p < length (inside (node nodes.old at)) }
     requires sound { AllByRecursion (Sound nodes.old height) (take p (inside (node nodes.old at)) ++ drop (suc p) (inside (node nodes.old at))) }
     requires within { at < length nodes.old }
     ensures { Written dims nodes.old nodes.new height at (take p (inside (node nodes.old at)) ++ drop (suc p) (inside (node nodes.old at))) }
 {
     let n = nodes[at];
-    let (stay, m) = group_of(1 << p, false, &n.entries[0..n.len]);
-    write_node(nodes, dims, height, at, &stay[0..m]);
+    let (stay, m) = group_of(1 << p, false, n.entries());
+    write_node(nodes, dims, height, at, &stay[..m]);
 }
 
 // worklist, behind the n that it has, and the places of its nodes to the stack of free places, which grows down and begins at `top`. Says where they end after.
@@ -123,8 +119,7 @@ pub(crate) fn withdraw_below(
     let p = holder_of(nodes, height, at, number);
     let child = child_of(nodes, at, p);
     let (m, u) = withdraw_below(nodes, dims, height - 1, child, number, words, n, free, top);
-    let c = nodes[child];
-    if c.len >= 3 {
+    if nodes[child].len >= 3 {
         rebox(nodes, dims, height, at);
         return (m, u);
     }
@@ -156,11 +151,7 @@ pub(crate) fn withdraw_root(
     ensures { WithdrawnRoot dims nodes.old nodes.new height root number words.old words.new n result.2 free.old free.new top result.3 result.1 result.0 }
 {
     let (m, u) = withdraw_below(nodes, dims, height, root, number, words, n, free, top);
-    let r = nodes[root];
-    if height == 0 {
-        return (root, height, m, u);
-    }
-    if r.len != 1 {
+    if height == 0 || nodes[root].len != 1 {
         return (root, height, m, u);
     }
     let j = child_of(nodes, root, 0);

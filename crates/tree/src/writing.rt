@@ -6,7 +6,8 @@ ghost use Rattle.tree.specs.Nodes.{Sound, entry_of, boxes_of, Written, Fitted, o
 
 use crate::division::{best_division, group_of};
 use crate::fixed::{Sets, box_around, point_of};
-use crate::node::{Node, NodeEntry, clip_in, place_in};
+use crate::node::{Node, NodeEntry};
+use crate::padded::padded;
 
 // The box of an entry: the point of a clip at height 0, and above that a node's own.
 pub(crate) fn sets_of(nodes: &[Node], height: usize, dims: usize, e: NodeEntry) -> Sets
@@ -14,11 +15,9 @@ pub(crate) fn sets_of(nodes: &[Node], height: usize, dims: usize, e: NodeEntry) 
     ensures { take dims result ≡ sets_of height (entry_of dims nodes.now height e) }
 {
     if height == 0 {
-        let c = clip_in(e);
-        point_of(c.letters)
+        point_of(e.clip().letters)
     } else {
-        let n = nodes[place_in(e)];
-        n.sets
+        nodes[e.place()].sets
     }
 }
 
@@ -35,21 +34,8 @@ pub(crate) fn boxes_of(
     ensures boxes { map (take dims) (take (length entries.now) result) ≡ boxes_of dims nodes.now height entries.now }
 {
     let mut r = [[0; 10]; 9];
-    for i in 0..entries.len() {
-        let b = sets_of(nodes, height, dims, entries[i]);
-        r[i] = b;
-    }
-    r
-}
-
-// The same entries, in an array of eight.
-pub(crate) fn eight_of(entries: &[NodeEntry]) -> [NodeEntry; 8]
-    requires { length entries.now ≤ 8 }
-    ensures { take (length entries.now) result ≡ entries.now }
-{
-    let mut r = [NodeEntry::Free; 8];
-    for i in 0..entries.len() {
-        r[i] = entries[i];
+    for (i, e) in entries.iter().enumerate() {
+        r[i] = sets_of(nodes, height, dims, *e);
     }
     r
 }
@@ -69,10 +55,8 @@ pub(crate) fn write_node(
     ensures { Written dims nodes.old nodes.new height at entries.now }
 {
     let boxes = boxes_of(nodes, dims, height, entries);
-    let len = entries.len();
-    let sets = box_around(&boxes[0..len]);
-    let entries = eight_of(entries);
-    nodes[at] = Node { sets, len, entries };
+    let sets = box_around(&boxes[..entries.len()]);
+    nodes[at] = Node::new(sets, entries);
 }
 
 // Settles some entries in the node `at`: where they are nine, they are divided, and one group goes to the node `spare`.
@@ -101,22 +85,9 @@ pub(crate) fn fit_entries(
     let code = best_division(&boxes, dims);
     let (stay, n) = group_of(code, false, entries);
     let (leave, m) = group_of(code, true, entries);
-    write_node(nodes, dims, height, at, &stay[0..n]);
-    write_node(nodes, dims, height, spare, &leave[0..m]);
+    write_node(nodes, dims, height, at, &stay[..n]);
+    write_node(nodes, dims, height, spare, &leave[..m]);
     true
-}
-
-// Some entries and one more.
-pub(crate) fn with_entry(entries: &[NodeEntry], e: NodeEntry) -> [NodeEntry; 9]
-    requires { length entries.now ≤ 8 }
-    ensures { take (length entries.now + 1) result ≡ entries.now ++ e ∷ [] }
-{
-    let mut r = [NodeEntry::Free; 9];
-    for i in 0..entries.len() {
-        r[i] = entries[i];
-    }
-    r[entries.len()] = e;
-    r
 }
 
 // Adds an entry to the node `at`, which is divided where it has eight.
@@ -129,26 +100,25 @@ pub(crate) fn add_entry(
     entry: NodeEntry,
 ) -> bool
     requires axes { dims ≤ 10 }
-    requires few { (node nodes.old at).len ≤ 8 }
     requires sound { AllByRecursion (Sound nodes.old height) (inside (node nodes.old at) ++ entry ∷ []) }
     requires within { at < length nodes.old }
     requires room { spare < length nodes.old }
     requires apart { (k : ℕ) → one at k + one spare k + total (λ e. times nodes.old height e k) (inside (node nodes.old at) ++ entry ∷ []) ≤ 1 }
     ensures { Fitted dims nodes.old nodes.new height at spare (inside (node nodes.old at) ++ entry ∷ []) result }
 {
-    let n = nodes[at];
-    let entries = with_entry(&n.entries[0..n.len], entry);
-    fit_entries(nodes, dims, height, at, spare, &entries[0..n.len + 1])
+    let node = nodes[at];
+    let before = node.entries();
+    let entries: [NodeEntry; 9] = padded(before, entry);
+    fit_entries(nodes, dims, height, at, spare, &entries[..before.len() + 1])
 }
 
 // Makes the node `at` anew of its own entries.
 pub(crate) fn rebox(nodes: &mut [Node], dims: usize, height: usize, at: usize)
     requires axes { dims ≤ 10 }
-    requires few { (node nodes.old at).len ≤ 8 }
     requires sound { AllByRecursion (Sound nodes.old height) (inside (node nodes.old at)) }
     requires within { at < length nodes.old }
     ensures { Written dims nodes.old nodes.new height at (inside (node nodes.old at)) }
 {
-    let n = nodes[at];
-    write_node(nodes, dims, height, at, &n.entries[0..n.len]);
+    let node = nodes[at];
+    write_node(nodes, dims, height, at, node.entries());
 }

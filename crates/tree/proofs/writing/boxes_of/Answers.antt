@@ -6,15 +6,15 @@ use Rattle.tree.specs.Nodes.{Sound, entry_of, boxes_of, no_entry}
 use Rattle.tree.proofs.Lists.{map_more_set}
 use Rattle.tree.proofs.writing.boxes_of.Goals as goal
 
-pub sets_of-b-requires : goal.sets_of-b-requires
-sets_of-b-requires c = All-get_or (Sound c.args.nodes.now c.args.height) c.args.entries.now c.loop-i.i no_entry (omega arith) c.requires.sound
+pub sets_of-requires : goal.sets_of-requires
+sets_of-requires c = All-get_or (Sound c.args.nodes.now c.args.height) c.args.entries.now c.loop-i.i no_entry (omega arith) c.requires.sound
 
 pub loop-i-preserved : goal.loop-i-preserved
 loop-i-preserved c = (
   length-set _ _ _ ∙ c.loop-i.invariant.0,
   All-set (λ b. length b ≡ 10) _ _ _ (search rules) c.loop-i.invariant.1,
   map_more_set (take c.args.dims) (λ e. sets_of c.args.height (entry_of c.args.dims c.args.nodes.now c.args.height e))
-      c.loop-i.r c.args.entries.now c.loop-i.i c.sets_of-b.result no_entry (omega arith) (omega arith) c.loop-i.invariant.2 c.sets_of-b.ensures,
+      c.loop-i.r c.args.entries.now c.loop-i.i c.sets_of.result no_entry (omega arith) (omega arith) c.loop-i.invariant.2 c.sets_of.ensures,
 )
 
 pub returns : goal.returns

@@ -4,7 +4,7 @@ use Rattle.std.proofs.lemmas.List.{take_all}
 use Rattle.rules.specs.Tree.{sets_of}
 use Rattle.rules.proofs.Groups.{Code, all_group}
 use Rattle.tree.specs.Nodes.{Sound, Written, entry_of, divided}
-use Rattle.tree.proofs.Lists.{map_map, cut}
+use Rattle.tree.proofs.Lists.{map_map}
 use Rattle.tree.proofs.Fits.{settled_one, settled_two, second_side, side_few, divided_code}
 use Rattle.tree.proofs.writing.fit_entries.Goals as goal
 
@@ -21,7 +21,7 @@ pub write_node-requires-2 : goal.write_node-requires-2
 write_node-requires-2 c =
     let nine : length c.args.entries.now ≡ 9 = omega arith in
     let h : Code c.best_division-code.result = subst Code (sym c.best_division-code.ensures) (divided_code c.args.dims (map (take c.args.dims) c.boxes_of-boxes.result)) in
-    let e = cut c.group_of-n.result.1 c.group_of-n.result.0 ∙ c.group_of-n.ensures.0 in
+    let e = c.group_of-n.ensures.0 in
     let f = side_few false c.best_division-code.result c.args.entries.now _ e nine h in
     record {
       axes = c.requires.axes;
@@ -34,8 +34,8 @@ pub write_node-requires-3 : goal.write_node-requires-3
 write_node-requires-3 c =
     let nine : length c.args.entries.now ≡ 9 = omega arith in
     let h : Code c.best_division-code.result = subst Code (sym c.best_division-code.ensures) (divided_code c.args.dims (map (take c.args.dims) c.boxes_of-boxes.result)) in
-    let e = cut c.group_of-m.result.1 c.group_of-m.result.0 ∙ c.group_of-m.ensures.0 in
-    let g = cut c.group_of-n.result.1 c.group_of-n.result.0 ∙ c.group_of-n.ensures.0 in
+    let e = c.group_of-m.ensures.0 in
+    let g = c.group_of-n.ensures.0 in
     let f = side_few true c.best_division-code.result c.args.entries.now _ e nine h in
     let p = subst (λ x. Written c.args.dims c.args.nodes.now c.write_node-2.new.nodes c.args.height c.args.at x) g c.write_node-2.ensures in
     let s = second_side c.args.dims c.args.nodes.now c.args.height c.args.at c.args.spare c.args.entries.now c.requires.within c.requires.apart c.requires.sound
@@ -51,8 +51,8 @@ pub returns : goal.returns
 returns c =
     let nine : length c.args.entries.now ≡ 9 = omega arith in
     let h : Code c.best_division-code.result = subst Code (sym c.best_division-code.ensures) (divided_code c.args.dims (map (take c.args.dims) c.boxes_of-boxes.result)) in
-    let e = cut c.group_of-m.result.1 c.group_of-m.result.0 ∙ c.group_of-m.ensures.0 in
-    let g = cut c.group_of-n.result.1 c.group_of-n.result.0 ∙ c.group_of-n.ensures.0 in
+    let e = c.group_of-m.ensures.0 in
+    let g = c.group_of-n.ensures.0 in
     let p = subst (λ x. Written c.args.dims c.args.nodes.now c.write_node-2.new.nodes c.args.height c.args.at x) g c.write_node-2.ensures in
     let q = subst (λ x. Written c.args.dims c.write_node-2.new.nodes c.write_node-3.new.nodes c.args.height c.args.spare x) e c.write_node-3.ensures in
     let ten : length c.boxes_of-boxes.result ≡ length c.args.entries.now = search rules in
