@@ -1,6 +1,6 @@
 -- The tree of an entry moved out, and what stands at an entry above height 0.
 use Rattle.std.proofs.Common.{◌≡◌, ℕ, zero, suc, ◌+◌, ◌-◌, ◌*◌, ◌<◌, ◌≤◌, Bool, true, false, not, List, [], ◌∷◌, ◌++◌, map, length, get_or, take, drop, set, sym, refl, ap, ◌∙◌, subst, add-one, arith, length-set}
-use Rattle.std.specs.List.{flat_map, AllByRecursion}
+use Rattle.std.specs.List.{flat_map, AllByRecursion, list_any}
 use Rattle.std.proofs.lemmas.List.{take_more, drop-set, take_all, length-append, length-take, flat_map_more, append-nil}
 use Rattle.rules.specs.Tree.{rows_below}
 use Rattle.rules.specs.Rows.{lists}
@@ -10,7 +10,7 @@ use Rattle.tree.specs.declared.node.Node.{Node}
 use Rattle.tree.specs.Nodes.{no_entry, node, inside, clip_in, place_in, entry_of, Sound, Lettered, one, total, times}
 use Rattle.tree.specs.Leaving.{listed_in, asides, clips_in, count_in, Within, SetAside, stock}
 use Rattle.tree.proofs.Siblings.{total_append, total_take_le}
-use Rattle.tree.proofs.Looks.{lists_none, lists_some, listed_up}
+use Rattle.tree.proofs.Looks.{lists_any, lists_none, lists_some, listed_up}
 
 down : (g : ℕ) → g ≡ suc g - 1
 down g = omega arith
@@ -63,6 +63,9 @@ within_from N h e a b c = (a, b, c)
 module _ (N : List Node) (n h : ℕ) (e : NodeEntry) (q : ℕ) (ne : h ≡ 0 → ⊥) (is : q ≡ place_in e) (es : List NodeEntry) (es-is : es ≡ inside (node N q)) (d : ℕ) where
   up_is : listed_in d N h n e ≡ lists n (rows_below (h - 1) (map (entry_of d N (h - 1)) es))
   up_is = listed_up d N n h e ne ∙ ap (λ p. lists n (rows_below (h - 1) (map (entry_of d N (h - 1)) (inside (node N p))))) (sym is) ∙ ap (λ x. lists n (rows_below (h - 1) (map (entry_of d N (h - 1)) x))) (sym es-is)
+
+  pub listed_any : list_any (listed_in d N (h - 1) n) es ≡ listed_in d N h n e
+  listed_any = lists_any d N n (h - 1) es ∙ sym up_is
 
   pub listed_found : (k : ℕ) → k < length es → listed_in d N (h - 1) n (get_or es k no_entry) ≡ true → listed_in d N h n e ≡ true
   listed_found k l t = up_is ∙ lists_some d N n (h - 1) es k l t

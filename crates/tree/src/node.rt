@@ -76,11 +76,3 @@ impl Node {
         &self.entries[..self.len]
     }
 }
-
-// The root of a tree: its place, its height, and how many boxes the tree has, which is where the stack of free places begins.
-#[derive(Clone, Copy)]
-pub struct Root {
-    pub(crate) place: usize,
-    pub(crate) height: usize,
-    pub(crate) used: usize,
-}

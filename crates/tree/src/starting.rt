@@ -7,11 +7,11 @@ ghost use Rattle.rules.specs.Tree.{empty};
 ghost use Rattle.tree.specs.Seen.{seen_index, index_boxes};
 ghost use Rattle.tree.specs.Tables.{table_boxes};
 
+use crate::free::FreePlaces;
 use crate::index::Index;
-use crate::node::Root;
+use crate::nodes::{Nodes, Subtree};
 use crate::padded::padded;
 use crate::table::Table;
-use crate::writing::write_node;
 use refusals::{FitFault, Refusal};
 use space::check_plan;
 
@@ -39,20 +39,25 @@ impl Index {
         ensures made { IfOk result (λ x. (seen_index x ≡ standing plan.now capacity (empty (length plan.now))) × (index_boxes x ≡ table_boxes table)) }
     {
         fit(plan, capacity, table.boxes())?;
-        let sizes = padded(plan, 0);
-        let Table { mut nodes, free } = table;
-        write_node(&mut nodes, plan.len(), 0, 0, &[]);
-        Ok(Index {
-            sizes,
+        let Table { nodes, free } = table;
+        let mut nodes = Nodes {
             dims: plan.len(),
+            places: nodes,
+        };
+        let root = Subtree {
+            place: 0,
+            height: 0,
+        };
+        nodes.write(root, &[]);
+        Ok(Index {
+            sizes: padded(plan, 0),
             capacity,
             nodes,
-            free,
-            root: Root {
-                place: 0,
-                height: 0,
+            free: FreePlaces {
+                places: free,
                 used: 1,
             },
+            root,
             clips: 0,
             highest: 0,
         })

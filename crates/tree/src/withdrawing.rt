@@ -4,44 +4,11 @@ ghost use Rattle.std.specs.List.{AllByRecursion};
 ghost use Rattle.tree.specs.Leaving.{clips_in, count_in, Within, SetAside, listed_in, kept, WithdrawnBelow, WithdrawnRoot};
 ghost use Rattle.tree.specs.Nodes.{Sound, Written, times, inside, node, spot, clip_in};
 
-use crate::aside::lay_aside;
 use crate::division::group_of;
-use crate::lookup::{child_of, holder_of};
-use crate::node::{Node, NodeEntry};
-use crate::writing::{rebox, write_node};
-
-// Moves the tree of an entry out: its clips to the worklist, the places of its nodes to the stack.
-pub(crate) fn set_aside(
-    nodes: &[Node],
-    height: usize,
-    e: NodeEntry,
-    words: &mut [u64],
-    n: usize,
-    free: &mut [usize],
-    top: usize,
-) -> (usize, usize)
-    requires within { Within nodes.now height e }
-    requires words { 2 * (n + length (clips_in nodes.now height e)) ≤ length words.old }
-    requires room { count_in nodes.now height e ≤ top }
-    requires stack { top ≤ length free.old }
-    ensures { SetAside nodes.now height e words.old words.new n result.0 free.old free.new top result.1 }
-{
-    if height == 0 {
-        lay_aside(words, n, e.clip());
-        return (n + 1, top);
-    }
-    let at = e.place();
-    let node = nodes[at];
-    free[top - 1] = at;
-    let mut many = n;
-    let mut high = top - 1;
-    for entry in node.entries() {
-        let (a, b) = set_aside(nodes, height - 1, *entry, words, many, free, high);
-        many = a;
-        high = b;
-    }
-    (many, high)
-}
+use crate::free::FreePlaces;
+use crate::node::NodeEntry;
+use crate::nodes::{Nodes, Subtree};
+use crate::worklist::Worklist;
 
 // Whether an entry's clip has another number.
 pub(crate) fn keeps(e: NodeEntry, number: u32) -> bool
@@ -66,95 +33,113 @@ pub(crate) fn other_clips(entries: &[NodeEntry], number: u32) -> ([NodeEntry; 8]
     (out, n)
 }
 
-// Makes a leaf anew without the clips of that number.
-pub(crate) fn remove_clip(nodes: &mut [Node], dims: usize, at: usize, number: u32)
-    requires axes { dims ≤ 10 }
-    requires sound { AllByRecursion (Sound nodes.old 0) (inside (node nodes.old at)) }
-    requires within { at < length nodes.old }
-    ensures { Written dims nodes.old nodes.new 0 at (kept number (inside (node nodes.old at))) }
-{
-    let n = nodes[at];
-    let (stay, m) = other_clips(n.entries(), number);
-    write_node(nodes, dims, 0, at, &stay[..m]);
-}
-
-// Makes the node `at` anew without its entry at p.
-pub(crate) fn remove_entry(nodes: &mut [Node], dims: usize, height: usize, at: usize, p: usize)
-    requires axes { dims ≤ 10 }
-    requires place { p < length (inside (node nodes.old at)) }
-    requires sound { AllByRecursion (Sound nodes.old height) (take p (inside (node nodes.old at)) ++ drop (suc p) (inside (node nodes.old at))) }
-    requires within { at < length nodes.old }
-    ensures { Written dims nodes.old nodes.new height at (take p (inside (node nodes.old at)) ++ drop (suc p) (inside (node nodes.old at))) }
-{
-    let n = nodes[at];
-    let (stay, m) = group_of(1 << p, false, n.entries());
-    write_node(nodes, dims, height, at, &stay[..m]);
-}
-
-// worklist, behind the n that it has, and the places of its nodes to the stack of free places, which grows down and begins at `top`. Says where they end after.
-pub(crate) fn withdraw_below(
-    nodes: &mut [Node],
-    dims: usize,
-    height: usize,
-    at: usize,
-    number: u32,
-    words: &mut [u64],
-    n: usize,
-    free: &mut [usize],
-    top: usize,
-) -> (usize, usize)
-    requires axes { dims ≤ 10 }
-    requires sound { Sound nodes.old (suc height) (spot at) }
-    requires listed { listed_in dims nodes.old (suc height) number (spot at) ≡ true }
-    requires apart { (k : ℕ) → times nodes.old (suc height) (spot at) k ≤ 1 }
-    requires words { 2 * (n + length (clips_in nodes.old (suc height) (spot at))) ≤ length words.old }
-    requires room { count_in nodes.old (suc height) (spot at) ≤ top }
-    requires stack { top ≤ length free.old }
-    ensures { WithdrawnBelow dims nodes.old nodes.new height at number words.old words.new n result.0 free.old free.new top result.1 }
-{
-    if height == 0 {
-        remove_clip(nodes, dims, at, number);
-        return (n, top);
+impl Nodes {
+    // Moves the tree of an entry out: its clips to the worklist, the places of its nodes to the free ones.
+    pub(crate) fn set_aside(
+        &self,
+        height: usize,
+        e: NodeEntry,
+        worklist: &mut Worklist,
+        free: &mut FreePlaces,
+    )
+        requires within { Within self.now.places.items height e }
+        requires words { 2 * (worklist.old.clips + length (clips_in self.now.places.items height e)) ≤ length worklist.old.words.now }
+        requires room { count_in self.now.places.items height e ≤ free.old.used }
+        ensures { SetAside self.now.places.items height e worklist.old.words.now worklist.new.words.now worklist.old.clips worklist.new.clips free.old.places.items free.new.places.items free.old.used free.new.used }
+    {
+        if height == 0 {
+            worklist.lay(e.clip());
+            return;
+        }
+        let at = e.place();
+        free.put_back(at);
+        for entry in self.places[at].entries() {
+            self.set_aside(height - 1, *entry, worklist, free);
+        }
     }
-    let p = holder_of(nodes, height, at, number);
-    let child = child_of(nodes, at, p);
-    let (m, u) = withdraw_below(nodes, dims, height - 1, child, number, words, n, free, top);
-    if nodes[child].len >= 3 {
-        rebox(nodes, dims, height, at);
-        return (m, u);
-    }
-    let (a, b) = set_aside(nodes, height, NodeEntry::Place(child), words, m, free, u);
-    remove_entry(nodes, dims, height, at, p);
-    (a, b)
-}
 
-// Says the root and the height after, and where the worklist and the stack end.
-pub(crate) fn withdraw_root(
-    nodes: &mut [Node],
-    dims: usize,
-    height: usize,
-    root: usize,
-    number: u32,
-    words: &mut [u64],
-    n: usize,
-    free: &mut [usize],
-    top: usize,
-) -> (usize, usize, usize, usize)
-    requires axes { dims ≤ 10 }
-    requires sound { Sound nodes.old (suc height) (spot root) }
-    requires two { (height ≢ 0) → 2 ≤ length (inside (node nodes.old root)) }
-    requires listed { listed_in dims nodes.old (suc height) number (spot root) ≡ true }
-    requires apart { (k : ℕ) → times nodes.old (suc height) (spot root) k ≤ 1 }
-    requires words { 2 * (n + length (clips_in nodes.old (suc height) (spot root))) ≤ length words.old }
-    requires room { count_in nodes.old (suc height) (spot root) ≤ top }
-    requires stack { top ≤ length free.old }
-    ensures { WithdrawnRoot dims nodes.old nodes.new height root number words.old words.new n result.2 free.old free.new top result.3 result.1 result.0 }
-{
-    let (m, u) = withdraw_below(nodes, dims, height, root, number, words, n, free, top);
-    if height == 0 || nodes[root].len != 1 {
-        return (root, height, m, u);
+    // Makes a leaf anew without the clips of a number.
+    pub(crate) fn remove_clip(&mut self, place: usize, number: u32)
+        requires sound { AllByRecursion (Sound self.old.places.items 0) (inside (node self.old.places.items place)) }
+        requires within { place < length self.old.places.items }
+        ensures written { Written self.old.dims self.old.places.items self.new.places.items 0 place (kept number (inside (node self.old.places.items place))) }
+        ensures dims { self.new.dims ≡ self.old.dims }
+    {
+        let (stay, m) = other_clips(self.places[place].entries(), number);
+        self.write(Subtree { place, height: 0 }, &stay[..m]);
     }
-    let j = child_of(nodes, root, 0);
-    free[u - 1] = root;
-    (j, height - 1, m, u - 1)
+
+    // Makes a node anew without its entry at p.
+    pub(crate) fn remove_entry(&mut self, at: Subtree, p: usize)
+        requires place { p < length (inside (node self.old.places.items at.place)) }
+        requires sound { AllByRecursion (Sound self.old.places.items at.height) (take p (inside (node self.old.places.items at.place)) ++ drop (suc p) (inside (node self.old.places.items at.place))) }
+        requires within { at.place < length self.old.places.items }
+        ensures written { Written self.old.dims self.old.places.items self.new.places.items at.height at.place (take p (inside (node self.old.places.items at.place)) ++ drop (suc p) (inside (node self.old.places.items at.place))) }
+        ensures dims { self.new.dims ≡ self.old.dims }
+    {
+        let (stay, m) = group_of(1 << p, false, self.places[at.place].entries());
+        self.write(at, &stay[..m]);
+    }
+
+    // Withdraws a number that is listed below a node. A node below that is left with less than three entries is taken out, and its tree set aside.
+    pub(crate) fn withdraw_below(
+        &mut self,
+        at: Subtree,
+        number: u32,
+        worklist: &mut Worklist,
+        free: &mut FreePlaces,
+    )
+        requires sound { Sound self.old.places.items (suc at.height) (spot at.place) }
+        requires listed { listed_in self.old.dims self.old.places.items (suc at.height) number (spot at.place) ≡ true }
+        requires apart { (k : ℕ) → times self.old.places.items (suc at.height) (spot at.place) k ≤ 1 }
+        requires words { 2 * (worklist.old.clips + length (clips_in self.old.places.items (suc at.height) (spot at.place))) ≤ length worklist.old.words.now }
+        requires room { count_in self.old.places.items (suc at.height) (spot at.place) ≤ free.old.used }
+        ensures withdrawn { WithdrawnBelow self.old.dims self.old.places.items self.new.places.items at.height at.place number worklist.old.words.now worklist.new.words.now worklist.old.clips worklist.new.clips free.old.places.items free.new.places.items free.old.used free.new.used }
+        ensures dims { self.new.dims ≡ self.old.dims }
+    {
+        if at.height == 0 {
+            self.remove_clip(at.place, number);
+            return;
+        }
+        let p = self.holder_of(at, number);
+        let child = Subtree {
+            place: self.child_of(at.place, p),
+            height: at.height - 1,
+        };
+        self.withdraw_below(child, number, worklist, free);
+        if self.places[child.place].len >= 3 {
+            self.rebox(at);
+            return;
+        }
+        self.set_aside(at.height, NodeEntry::Place(child.place), worklist, free);
+        self.remove_entry(at, p);
+    }
+
+    // The same at a root, which gives way where it is left with one entry. Says the root after.
+    pub(crate) fn withdraw_root(
+        &mut self,
+        root: Subtree,
+        number: u32,
+        worklist: &mut Worklist,
+        free: &mut FreePlaces,
+    ) -> Subtree
+        requires sound { Sound self.old.places.items (suc root.height) (spot root.place) }
+        requires two { (root.height ≢ 0) → 2 ≤ length (inside (node self.old.places.items root.place)) }
+        requires listed { listed_in self.old.dims self.old.places.items (suc root.height) number (spot root.place) ≡ true }
+        requires apart { (k : ℕ) → times self.old.places.items (suc root.height) (spot root.place) k ≤ 1 }
+        requires words { 2 * (worklist.old.clips + length (clips_in self.old.places.items (suc root.height) (spot root.place))) ≤ length worklist.old.words.now }
+        requires room { count_in self.old.places.items (suc root.height) (spot root.place) ≤ free.old.used }
+        ensures withdrawn { WithdrawnRoot self.old.dims self.old.places.items self.new.places.items root.height root.place number worklist.old.words.now worklist.new.words.now worklist.old.clips worklist.new.clips free.old.places.items free.new.places.items free.old.used free.new.used result.height result.place }
+        ensures dims { self.new.dims ≡ self.old.dims }
+    {
+        self.withdraw_below(root, number, worklist, free);
+        if root.height == 0 || self.places[root.place].len != 1 {
+            return root;
+        }
+        free.put_back(root.place);
+        Subtree {
+            place: self.child_of(root.place, 0),
+            height: root.height - 1,
+        }
+    }
 }
