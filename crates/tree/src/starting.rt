@@ -23,7 +23,7 @@ pub fn fit(plan: &[u8], capacity: u32, boxes: usize) -> Result<(), Refusal>
     ensures { refusal_of result ≡ of_fit plan.now capacity boxes }
 {
     check_plan(plan)?;
-    if capacity < 1 || capacity > MOST {
+    if !(1..=MOST).contains(&capacity) {
         return Err(Refusal::Fit(FitFault::Capacity));
     }
     if boxes < (capacity as usize / 2).max(1) {
