@@ -3,7 +3,7 @@ use Rattle.std.proofs.Common.{◌≡◌, ℕ, zero, suc, ◌+◌, ◌-◌, ◌*�
 use Rattle.std.specs.List.{AllByRecursion, list_any, position, position_or_len}
 use Rattle.std.specs.Option.{unwrap_or}
 use Rattle.std.proofs.lemmas.List.{drop_more, drop_all, take_more_set, append_assoc, append-nil}
-use Rattle.std.proofs.lemmas.Bool.{or_right, or_left, or_from, ne_eqb, ltb-false}
+use Rattle.std.proofs.lemmas.Bool.{ne_eqb, ltb-false}
 use Rattle.space.specs.Boxes.{has}
 use Rattle.rules.specs.Division.{alike, group}
 use Rattle.space.specs.Row.{Row}
@@ -53,15 +53,6 @@ module _ (d : ℕ) (N : List Node) (n : ℕ) where
   lists_any h [] = sym (lists_nil h)
   lists_any h (e ∷ es) = ap (λ b. listed_in d N h n e || b) (lists_any h es) ∙ sym (lists_cons h e es)
 
-  pub lists_none : (h : ℕ) (es : List NodeEntry) → AllByRecursion (λ e. listed_in d N h n e ≡ false) es → lists n (rows_below h (map (entry_of d N h) es)) ≡ false
-  lists_none h [] a = lists_nil h
-  lists_none h (e ∷ es) a = lists_cons h e es ∙ or_from (listed_in d N h n e) (lists n (rows_below h (map (entry_of d N h) es))) a.0 (lists_none h es a.1)
-
-  pub lists_some : (h : ℕ) (es : List NodeEntry) (p : ℕ) → p < length es → listed_in d N h n (get_or es p no_entry) ≡ true → lists n (rows_below h (map (entry_of d N h) es)) ≡ true
-  lists_some h [] p l e = absurd (omega arith)
-  lists_some h (x ∷ es) zero l e = lists_cons h x es ∙ or_left (listed_in d N h n x) (lists n (rows_below h (map (entry_of d N h) es))) e
-  lists_some h (x ∷ es) (suc p) l e = lists_cons h x es ∙ or_right (listed_in d N h n x) (lists n (rows_below h (map (entry_of d N h) es))) (lists_some h es p (omega arith) e)
-
   pub listed_up : (h : ℕ) (e : NodeEntry) → (h ≡ 0 → ⊥) → listed_in d N h n e ≡ lists n (rows_below (h - 1) (map (entry_of d N (h - 1)) (inside (node N (place_in e)))))
   unfolding listed_in entry_of
   listed_up zero e ne = absurd (ne refl)
@@ -97,21 +88,6 @@ first_found p es =
     go : (n m : ℕ) (b : Bool) → ltb n m ≡ b → n ≤ m → unwrap_or (cond b (Some n) None) m ≡ n
     go n m true e l = refl
     go n m false e l = let k = ltb-false n m e in omega arith
-
-pub first_here : (p : NodeEntry → Bool) (es : List NodeEntry) (k : ℕ) → k < length es → p (get_or es k no_entry) ≡ true → first_index p es ≡ k + first_index p (drop k es) → k ≡ first_index p es
-first_here p es k l t e =
-    let z : first_index p (drop k es) ≡ 0 = ap (first_index p) (drop_more es k no_entry l) ∙ ap (λ b. cond b 0 (suc (first_index p (drop (k + 1) es)))) t in
-    omega arith
-
-pub first_later : (p : NodeEntry → Bool) (es : List NodeEntry) (k : ℕ) → k < length es → p (get_or es k no_entry) ≡ false → first_index p es ≡ k + first_index p (drop k es) → first_index p es ≡ k + 1 + first_index p (drop (k + 1) es)
-first_later p es k l t e =
-    let z : first_index p (drop k es) ≡ suc (first_index p (drop (k + 1) es)) = ap (first_index p) (drop_more es k no_entry l) ∙ ap (λ b. cond b 0 (suc (first_index p (drop (k + 1) es)))) t in
-    omega arith
-
-pub first_none : (p : NodeEntry → Bool) (es : List NodeEntry) (k : ℕ) → k ≡ length es → first_index p es ≡ k + first_index p (drop k es) → length es ≡ first_index p es
-first_none p es k l e =
-    let z : first_index p (drop k es) ≡ 0 = ap (first_index p) (drop_all k es (omega arith)) in
-    omega arith
 
 -- ---- the entries of a leaf but those of a number
 kept_at : (n : ℕ) (es : List NodeEntry) (i : ℕ) (t : Bool) → i < length es → eqb (clip_in (get_or es i no_entry)).number n ≡ t

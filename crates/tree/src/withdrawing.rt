@@ -4,18 +4,11 @@ ghost use Rattle.std.specs.List.{AllByRecursion};
 ghost use Rattle.tree.specs.Leaving.{clips_in, count_in, Within, SetAside, listed_in, kept, WithdrawnBelow, WithdrawnRoot};
 ghost use Rattle.tree.specs.Nodes.{Sound, Written, times, inside, node, spot, clip_in};
 
-use crate::division::group_of;
 use crate::free::FreePlaces;
 use crate::node::NodeEntry;
 use crate::nodes::{Nodes, Subtree};
+use crate::padded::padded;
 use crate::worklist::Worklist;
-
-// Whether an entry's clip has another number.
-pub(crate) fn keeps(e: NodeEntry, number: u32) -> bool
-    ensures { result ≡ not ((clip_in e).number == number) }
-{
-    e.clip().number != number
-}
 
 // The entries of a leaf but those of that number.
 pub(crate) fn other_clips(entries: &[NodeEntry], number: u32) -> ([NodeEntry; 8], usize)
@@ -25,7 +18,7 @@ pub(crate) fn other_clips(entries: &[NodeEntry], number: u32) -> ([NodeEntry; 8]
     let mut out = [NodeEntry::Free; 8];
     let mut n = 0;
     for entry in entries {
-        if keeps(*entry, number) {
+        if entry.clip().number != number {
             out[n] = *entry;
             n += 1;
         }
@@ -77,8 +70,11 @@ impl Nodes {
         ensures written { Written self.old.dims self.old.places.items self.new.places.items at.height at.place (take p (inside (node self.old.places.items at.place)) ++ drop (suc p) (inside (node self.old.places.items at.place))) }
         ensures dims { self.new.dims ≡ self.old.dims }
     {
-        let (stay, m) = group_of(1 << p, false, self.places[at.place].entries());
-        self.write(at, &stay[..m]);
+        let node = self.places[at.place];
+        let before = node.entries();
+        let mut entries: [NodeEntry; 8] = padded(before, NodeEntry::Free);
+        entries[p..before.len()].rotate_left(1);
+        self.write(at, &entries[..before.len() - 1]);
     }
 
     // Withdraws a number that is listed below a node. A node below that is left with less than three entries is taken out, and its tree set aside.
