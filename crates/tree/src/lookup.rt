@@ -1,5 +1,5 @@
 // Where a clip stands in the tree.
-ghost use Rattle.std.specs.Prelude.{◌≡◌, ◌-◌, ◌<◌, length, slice_index_or};
+ghost use Rattle.std.specs.Prelude.{◌≡◌, ◌<◌, length, slice_index_or};
 ghost use Rattle.std.specs.List.{AllByRecursion};
 ghost use Rattle.tree.specs.Leaving.{listed_in, first_index};
 ghost use Rattle.tree.specs.Nodes.{Sound, inside, node, no_entry, place_in};
@@ -16,11 +16,13 @@ impl Nodes {
         if height == 0 {
             return e.clip().number == number;
         }
+        // The closure states what it asks and gives, since its call leads back to this function.
+        let below = height - 1;
         self.places[e.place()].entries().iter().any(
             |entry| -> bool
-                requires { (0 < height) × Sound self.now.places.items (height - 1) entry.now }
-                ensures { result ≡ listed_in self.entry.now.dims self.entry.now.places.items (height - 1) number entry.now }
-            { self.is_listed(height - 1, *entry, number) },
+                requires { Sound self.now.places.items below entry.now }
+                ensures { result ≡ listed_in self.entry.now.dims self.entry.now.places.items below number entry.now }
+            { self.is_listed(below, *entry, number) },
         )
     }
 
