@@ -76,6 +76,10 @@ unfoldable pub Sound : List Node → ℕ → NodeEntry → Type 0
 Sound N zero e = Lettered (clip_in e)
 Sound N (suc h) e = (place_in e < length N) × (least h ≤ (node N (place_in e)).len) × ((node N (place_in e)).len ≤ 8) × AllByRecursion (Sound N h) (inside (node N (place_in e)))
 
+-- the node i stands in the table, and its entries, of height h, are sound
+abbrev pub SoundIn : List Node → ℕ → ℕ → Type 0
+SoundIn N h i = (i < length N) × AllByRecursion (Sound N h) (inside (node N i))
+
 -- the division, under a name that `omega` does not unfold
 unfoldable pub divided : ℕ → List (List ℕ) → ℕ
 divided d bs = division d bs

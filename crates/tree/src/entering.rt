@@ -1,8 +1,7 @@
 // How a clip enters the tree.
 ghost use Rattle.std.specs.Prelude.{◌≡◌, ℕ, suc, ◌+◌, ◌<◌, ◌≤◌, length, slice_index, slice_index_or};
-ghost use Rattle.std.specs.List.{AllByRecursion};
 ghost use Rattle.tree.specs.Leaving.{EachOnce, EnteredClip};
-ghost use Rattle.tree.specs.Nodes.{Sound, Lettered, EnteredBelow, EnteredRoot, times, held, inside, node, no_entry, spot, place_in, place_of};
+ghost use Rattle.tree.specs.Nodes.{Sound, SoundIn, Lettered, EnteredBelow, EnteredRoot, times, held, inside, node, no_entry, spot, place_in, place_of};
 
 use crate::choice::choose;
 use crate::free::FreePlaces;
@@ -14,9 +13,8 @@ impl Nodes {
     // The place of the node below another that a clip is to go to.
     pub(crate) fn choose_child(&self, at: Subtree, clip: StoredClip) -> usize
         requires clip { Lettered clip }
-        requires within { at.place < length self.now.places.items }
         requires some { 0 < (node self.now.places.items at.place).len }
-        requires sound { AllByRecursion (Sound self.now.places.items at.height) (inside (node self.now.places.items at.place)) }
+        requires sound { SoundIn self.now.places.items at.height at.place }
         ensures place { place_of self.now.dims self.now.places.items at.height at.place clip < length (inside (node self.now.places.items at.place)) }
         ensures child { result ≡ place_in (slice_index_or (inside (node self.now.places.items at.place)) (place_of self.now.dims self.now.places.items at.height at.place clip) no_entry) }
     {

@@ -1,8 +1,7 @@
 // Where a clip stands in the tree.
 ghost use Rattle.std.specs.Prelude.{◌≡◌, ◌<◌, length, slice_index_or};
-ghost use Rattle.std.specs.List.{AllByRecursion};
 ghost use Rattle.tree.specs.Leaving.{listed_in, first_index};
-ghost use Rattle.tree.specs.Nodes.{Sound, inside, node, no_entry, place_in};
+ghost use Rattle.tree.specs.Nodes.{Sound, SoundIn, inside, node, no_entry, place_in};
 
 use crate::node::NodeEntry;
 use crate::nodes::{Nodes, Subtree};
@@ -28,8 +27,7 @@ impl Nodes {
 
     // The place of the first entry of a node that has the number below it; past the last where there is none.
     pub(crate) fn holder_of(&self, at: Subtree, number: u32) -> usize
-        requires within { at.place < length self.now.places.items }
-        requires sound { AllByRecursion (Sound self.now.places.items at.height) (inside (node self.now.places.items at.place)) }
+        requires { SoundIn self.now.places.items at.height at.place }
         ensures { result ≡ first_index (listed_in self.now.dims self.now.places.items at.height number) (inside (node self.now.places.items at.place)) }
     {
         let entries = self.places[at.place].entries();

@@ -2,7 +2,7 @@
 ghost use Rattle.std.specs.Prelude.{◌≡◌, ℕ, suc, ◌+◌, ◌*◌, ◌<◌, ◌≤◌, true, not, ◌++◌, length, take, drop, ◌==◌, ◌≢◌};
 ghost use Rattle.std.specs.List.{AllByRecursion};
 ghost use Rattle.tree.specs.Leaving.{clips_in, count_in, Within, SetAside, listed_in, kept, WithdrawnBelow, WithdrawnRoot};
-ghost use Rattle.tree.specs.Nodes.{Sound, Written, times, inside, node, spot, clip_in};
+ghost use Rattle.tree.specs.Nodes.{Sound, SoundIn, Written, times, inside, node, spot, clip_in};
 
 use crate::free::FreePlaces;
 use crate::node::NodeEntry;
@@ -10,7 +10,7 @@ use crate::nodes::{Nodes, Subtree};
 use crate::padded::padded;
 use crate::worklist::Worklist;
 
-// The entries of a leaf but those of that number.
+// The entries of a leaf but those of that number, and how many they are: in an array of fixed size, since nothing here takes memory.
 pub(crate) fn other_clips(entries: &[NodeEntry], number: u32) -> ([NodeEntry; 8], usize)
     requires { length entries.now ≤ 8 }
     ensures { (take result.1 result.0 ≡ kept number entries.now) × (result.1 ≤ 8) }
@@ -53,8 +53,7 @@ impl Nodes {
 
     // Makes a leaf anew without the clips of a number.
     pub(crate) fn remove_clip(&mut self, place: usize, number: u32)
-        requires sound { AllByRecursion (Sound self.old.places.items 0) (inside (node self.old.places.items place)) }
-        requires within { place < length self.old.places.items }
+        requires { SoundIn self.old.places.items 0 place }
         ensures written { Written self.old.dims self.old.places.items self.new.places.items 0 place (kept number (inside (node self.old.places.items place))) }
         ensures dims { self.new.dims ≡ self.old.dims }
     {
@@ -72,6 +71,7 @@ impl Nodes {
     {
         let node = self.places[at.place];
         let before = node.entries();
+        // It is put behind the others, and cut off.
         let mut entries: [NodeEntry; 8] = padded(before, NodeEntry::Free);
         entries[p..before.len()].rotate_left(1);
         self.write(at, &entries[..before.len() - 1]);

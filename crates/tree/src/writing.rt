@@ -2,7 +2,7 @@
 ghost use Rattle.std.specs.Prelude.{◌≡◌, ℕ, ◌+◌, ◌<◌, ◌≤◌, [], ◌∷◌, ◌++◌, map, length, take};
 ghost use Rattle.rules.specs.Tree.{sets_of};
 ghost use Rattle.std.specs.List.{AllByRecursion};
-ghost use Rattle.tree.specs.Nodes.{Sound, entry_of, boxes_of, Written, Fitted, one, total, times, inside, node};
+ghost use Rattle.tree.specs.Nodes.{Sound, SoundIn, entry_of, boxes_of, Written, Fitted, one, total, times, inside, node};
 
 use crate::division::{best_division, group_of};
 use crate::fixed::{Sets, box_around, point_of};
@@ -30,6 +30,7 @@ impl Nodes {
         ensures long { AllByRecursion (λ b. length b ≡ 10) result }
         ensures boxes { map (take self.now.dims) (take (length entries.now) result) ≡ boxes_of self.now.dims self.now.places.items height entries.now }
     {
+        // By index: after a zip with iter_mut the proof has not the boxes that were written.
         let mut boxes = [[0; 10]; 9];
         for (i, e) in entries.iter().enumerate() {
             boxes[i] = self.sets_of(height, *e);
@@ -50,7 +51,7 @@ impl Nodes {
         self.places[at.place] = Node::new(sets, entries);
     }
 
-    // Settles some entries in a node: where they are nine, they are divided, and one group goes to the node `spare`.
+    // Settles some entries in a node. Where they are nine, they are divided, and one group goes to the node `spare`: says whether it was so.
     pub(crate) fn settle(&mut self, at: Subtree, spare: usize, entries: &[NodeEntry]) -> bool
         requires some { 0 < length entries.now }
         requires few { length entries.now ≤ 9 }
@@ -78,7 +79,7 @@ impl Nodes {
         true
     }
 
-    // Adds an entry to a node, which is divided where it has eight.
+    // Adds an entry to a node, which is divided where it has eight: says whether it was so.
     pub(crate) fn add(&mut self, at: Subtree, spare: usize, entry: NodeEntry) -> bool
         requires sound { AllByRecursion (Sound self.old.places.items at.height) (inside (node self.old.places.items at.place) ++ entry ∷ []) }
         requires within { at.place < length self.old.places.items }
@@ -89,14 +90,14 @@ impl Nodes {
     {
         let node = self.places[at.place];
         let before = node.entries();
+        // The entry stands behind the others, and again in what is cut off.
         let entries: [NodeEntry; 9] = padded(before, entry);
         self.settle(at, spare, &entries[..before.len() + 1])
     }
 
     // Makes a node anew of its own entries.
     pub(crate) fn rebox(&mut self, at: Subtree)
-        requires sound { AllByRecursion (Sound self.old.places.items at.height) (inside (node self.old.places.items at.place)) }
-        requires within { at.place < length self.old.places.items }
+        requires { SoundIn self.old.places.items at.height at.place }
         ensures written { Written self.old.dims self.old.places.items self.new.places.items at.height at.place (inside (node self.old.places.items at.place)) }
         ensures dims { self.new.dims ≡ self.old.dims }
     {

@@ -24,7 +24,7 @@ pub choose_child-requires : goal.choose_child-requires
 choose_child-requires t c =
     let N = c.args.self.now.places.items in let at = c.args.at in
     let p = sound_parts N at.height at.place c.requires.sound in
-    record { clip = c.requires.clip; within = p.0; some = some_above N at.height at.place c.if-height-eq0.false c.requires.sound; sound = p.3 }
+    record { clip = c.requires.clip; some = some_above N at.height at.place c.if-height-eq0.false c.requires.sound; sound = (p.0, p.3) }
 
 pub enter_below-used-requires : goal.enter_below-used-requires
 enter_below-used-requires t c =
@@ -41,7 +41,7 @@ rebox-requires t c =
     let below = subst (λ x. EnteredBelow c.args.self.now.dims c.args.self.now.places.items c.enter_below-used.new.self.places.items c.args.spare.now (c.args.at.height - 1) x c.args.clip c.enter_below-used.result) c.choose_child.ensures.child in-child.ensures.entered in
     let q = ask_keep d N c.args.spare.now at.place c.args.clip in-child.new.self.places.items in-child.result at.height
     (c.if-height-eq0.false, c.requires.room, c.requires.apart, c.choose_child.ensures.place, c.requires.sound) below c.if-used-height.true in
-    record { sound = q.3; within = q.0 }
+    (q.0, q.3)
 
 pub returns-then-used-height-clause-entered : goal.returns-then-used-height-clause-entered
 returns-then-used-height-clause-entered t c =

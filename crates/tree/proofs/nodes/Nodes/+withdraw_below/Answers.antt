@@ -11,7 +11,7 @@ use Rattle.tree.proofs.nodes.Nodes.+withdraw_below.Goals as goal
 pub remove_clip-requires : goal.remove_clip-requires
 remove_clip-requires t c =
     let p = ask_strip c.args.self.now.places.items c.args.at.height c.args.at.place c.if-at-eq0.true c.requires.sound in
-    record { sound = p.2; within = p.0 }
+    (p.0, p.2)
 
 pub returns-then-at-eq0-clause-withdrawn : goal.returns-then-at-eq0-clause-withdrawn
 returns-then-at-eq0-clause-withdrawn t c =
@@ -22,7 +22,7 @@ returns-then-at-eq0-clause-withdrawn t c =
 pub holder_of-p-requires : goal.holder_of-p-requires
 holder_of-p-requires t c =
     let p = sound_parts c.args.self.now.places.items c.args.at.height c.args.at.place c.requires.sound in
-    record { within = p.0; sound = p.3 }
+    (p.0, p.3)
 
 pub child_of-requires : goal.child_of-requires
 child_of-requires t c =
@@ -61,7 +61,7 @@ rebox-requires t c =
     let same = read M c.child_of.result c.index.result.now l c.index.ensures in
     let three = subst (λ x. 3 ≤ (node M x).len) c.child_of.ensures (subst (λ n. 3 ≤ n) (ap (λ (n : Node). n.len) same) c.if-index-ge3.true) in
     let q = ask_keep d N i c.args.number p M W.words.now V.words.now W.clips V.clips F.places.items G.places.items F.used G.used h w taken three in
-    record { sound = q.2; within = q.0 }
+    (q.0, q.2)
 
 pub returns-then-index-ge3-clause-withdrawn : goal.returns-then-index-ge3-clause-withdrawn
 returns-then-index-ge3-clause-withdrawn t c =
