@@ -1,7 +1,7 @@
 // How a clip leaves the tree.
 ghost use Rattle.std.specs.Prelude.{◌≡◌, ℕ, suc, ◌+◌, ◌*◌, ◌<◌, ◌≤◌, true, not, ◌++◌, length, take, drop, ◌==◌, ◌≢◌};
 ghost use Rattle.std.specs.List.{AllByRecursion};
-ghost use Rattle.tree.specs.Leaving.{clips_in, count_in, Within, SetAside, listed_in, kept, WithdrawnBelow, WithdrawnRoot};
+ghost use Rattle.tree.specs.Leaving.{RoomFor, Within, SetAside, listed_in, kept, WithdrawnBelow, WithdrawnRoot};
 ghost use Rattle.tree.specs.Nodes.{Sound, SoundIn, Written, times, inside, node, spot, clip_in};
 
 use crate::free::FreePlaces;
@@ -36,8 +36,7 @@ impl Nodes {
         free: &mut FreePlaces,
     )
         requires within { Within self.now.places.items height e }
-        requires words { 2 * (worklist.old.clips + length (clips_in self.now.places.items height e)) ≤ length worklist.old.words.now }
-        requires room { count_in self.now.places.items height e ≤ free.old.used }
+        requires room { RoomFor self.now.places.items height e (length worklist.old.words.now) worklist.old.clips free.old.used }
         ensures { SetAside self.now.places.items height e worklist.old.words.now worklist.new.words.now worklist.old.clips worklist.new.clips free.old.places.items free.new.places.items free.old.used free.new.used }
     {
         if height == 0 {
@@ -88,8 +87,7 @@ impl Nodes {
         requires sound { Sound self.old.places.items (suc at.height) (spot at.place) }
         requires listed { listed_in self.old.dims self.old.places.items (suc at.height) number (spot at.place) ≡ true }
         requires apart { (k : ℕ) → times self.old.places.items (suc at.height) (spot at.place) k ≤ 1 }
-        requires words { 2 * (worklist.old.clips + length (clips_in self.old.places.items (suc at.height) (spot at.place))) ≤ length worklist.old.words.now }
-        requires room { count_in self.old.places.items (suc at.height) (spot at.place) ≤ free.old.used }
+        requires room { RoomFor self.old.places.items (suc at.height) (spot at.place) (length worklist.old.words.now) worklist.old.clips free.old.used }
         ensures withdrawn { WithdrawnBelow self.old.dims self.old.places.items self.new.places.items at.height at.place number worklist.old.words.now worklist.new.words.now worklist.old.clips worklist.new.clips free.old.places.items free.new.places.items free.old.used free.new.used }
         ensures dims { self.new.dims ≡ self.old.dims }
     {
@@ -123,8 +121,7 @@ impl Nodes {
         requires two { (root.height ≢ 0) → 2 ≤ length (inside (node self.old.places.items root.place)) }
         requires listed { listed_in self.old.dims self.old.places.items (suc root.height) number (spot root.place) ≡ true }
         requires apart { (k : ℕ) → times self.old.places.items (suc root.height) (spot root.place) k ≤ 1 }
-        requires words { 2 * (worklist.old.clips + length (clips_in self.old.places.items (suc root.height) (spot root.place))) ≤ length worklist.old.words.now }
-        requires room { count_in self.old.places.items (suc root.height) (spot root.place) ≤ free.old.used }
+        requires room { RoomFor self.old.places.items (suc root.height) (spot root.place) (length worklist.old.words.now) worklist.old.clips free.old.used }
         ensures withdrawn { WithdrawnRoot self.old.dims self.old.places.items self.new.places.items root.height root.place number worklist.old.words.now worklist.new.words.now worklist.old.clips worklist.new.clips free.old.places.items free.new.places.items free.old.used free.new.used result.height result.place }
         ensures dims { self.new.dims ≡ self.old.dims }
     {

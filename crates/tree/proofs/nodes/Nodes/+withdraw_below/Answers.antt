@@ -40,7 +40,7 @@ withdraw_below-requires t c =
     × (length (clips_in c.args.self.now.places.items (suc (c.args.at.height - 1)) (spot x)) ≤ length (clips_in c.args.self.now.places.items (suc c.args.at.height) (spot c.args.at.place)))
     × (count_in c.args.self.now.places.items (suc (c.args.at.height - 1)) (spot x) ≤ count_in c.args.self.now.places.items (suc c.args.at.height) (spot c.args.at.place)) in
     let r = subst P (sym c.child_of.ensures) (ask_down d N i c.args.number p h w) in
-    (omega (arith, c.decreases), (r.0, (r.1, (r.2, (omega (arith, r.3, c.requires.words), omega (arith, r.4, c.requires.room))))))
+    (omega (arith, c.decreases), (r.0, (r.1, (r.2, (omega (arith, r.3, c.requires.room.0), omega (arith, r.4, c.requires.room.1))))))
 
 pub index-requires : goal.index-requires
 index-requires t c =
@@ -82,12 +82,12 @@ set_aside-requires t c =
     let W = c.args.worklist.now in let F = c.args.free.now in let M = c.withdraw_below.new.self.places.items in let V = c.withdraw_below.new.worklist in let G = c.withdraw_below.new.free in
     let taken = subst (λ x. WithdrawnBelow d N M (h - 1) x c.args.number W.words.now V.words.now W.clips V.clips F.places.items G.places.items F.used G.used) c.child_of.ensures c.withdraw_below.ensures.withdrawn in
     let stack : c.args.free.now.used ≤ length c.args.free.now.places.items = omega (arith, F.within, F.places.ok.0) in
-    let q = ask_spill d N i c.args.number p M W.words.now V.words.now W.clips V.clips F.places.items G.places.items F.used G.used h w taken c.requires.words c.requires.room stack in
+    let q = ask_spill d N i c.args.number p M W.words.now V.words.now W.clips V.clips F.places.items G.places.items F.used G.used h w taken c.requires.room.0 c.requires.room.1 stack in
     let P : ℕ → Type 0 = λ x. Within c.withdraw_below.new.self.places.items c.args.at.height (spot x)
     × (2 * (c.withdraw_below.new.worklist.clips + length (clips_in c.withdraw_below.new.self.places.items c.args.at.height (spot x))) ≤ length c.withdraw_below.new.worklist.words.now)
     × (count_in c.withdraw_below.new.self.places.items c.args.at.height (spot x) ≤ c.withdraw_below.new.free.used) × (c.withdraw_below.new.free.used ≤ length c.withdraw_below.new.free.places.items) in
     let r = subst P (sym c.child_of.ensures) q in
-    record { within = r.0; words = r.1; room = r.2 }
+    record { within = r.0; room = (r.1, r.2) }
 
 pub remove_entry-requires : goal.remove_entry-requires
 remove_entry-requires t c =

@@ -13,8 +13,10 @@ withdraw_root-rest-requires c =
       two = ask_two d N F.places.items F.used at.height at.place c.args.number s c.requires.listed;
       listed = ask_listed d N F.places.items F.used at.height at.place c.args.number s c.requires.listed;
       apart = ask_once N F.places.items F.used at.height at.place s.spread;
-      words = ask_words d N F.places.items F.used at.height at.place c.args.number s c.requires.listed (length c.args.words.now) c.requires.words;
-      room = ask_room d N F.places.items F.used at.height at.place c.args.number s c.requires.listed;
+      room = (
+        ask_words d N F.places.items F.used at.height at.place c.args.number s c.requires.listed (length c.args.words.now) c.requires.words,
+        ask_room d N F.places.items F.used at.height at.place c.args.number s c.requires.listed,
+      );
     }
 
 pub order-requires : goal.order-requires

@@ -36,7 +36,7 @@ put_back-requires c =
     let in-M = root_in d N M h i c.args.number W.words.now V.words.now W.clips V.clips F.places.items G.places.items F.used G.used taken (sound_parts N h i c.requires.sound).0 in
     let one = sym (ap (λ (n : Node). n.len) (read M i c.index.result.now in-M c.index.ensures)) ∙ c.if-index-ne1.false in
     let stack : c.args.free.now.used ≤ length c.args.free.now.places.items = omega (arith, F.within, F.places.ok.0) in
-    (ask_lower d N M h i c.args.number W.words.now V.words.now W.clips V.clips F.places.items G.places.items F.used G.used one stack c.if-root-eq0.false taken c.requires.room).0
+    (ask_lower d N M h i c.args.number W.words.now V.words.now W.clips V.clips F.places.items G.places.items F.used G.used one stack c.if-root-eq0.false taken c.requires.room.1).0
 
 pub child_of-requires : goal.child_of-requires
 child_of-requires c =
@@ -57,6 +57,6 @@ returns-clause-withdrawn c =
     let one = sym (ap (λ (n : Node). n.len) (read M i c.index.result.now in-M c.index.ensures)) ∙ c.if-index-ne1.false in
     let stack : c.args.free.now.used ≤ length c.args.free.now.places.items = omega (arith, F.within, F.places.ok.0) in
     let H = c.put_back.new.self in
-    let low = done_lower d N M h i c.args.number W.words.now V.words.now W.clips V.clips F.places.items G.places.items F.used G.used one stack c.if-root-eq0.false taken c.requires.room in
+    let low = done_lower d N M h i c.args.number W.words.now V.words.now W.clips V.clips F.places.items G.places.items F.used G.used one stack c.if-root-eq0.false taken c.requires.room.1 in
     let there = subst (λ j. WithdrawnRoot d N M h i c.args.number W.words.now V.words.now W.clips V.clips F.places.items (set G.places.items (G.used - 1) i) F.used (G.used - 1) (h - 1) j) (sym c.child_of.ensures) low in
     subst₂ (λ A u. WithdrawnRoot d N M h i c.args.number W.words.now V.words.now W.clips V.clips F.places.items A F.used u (h - 1) c.child_of.result) (sym c.put_back.ensures.places) (sym c.put_back.ensures.used) there
