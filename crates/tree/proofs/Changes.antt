@@ -1,5 +1,5 @@
 -- An index when a clip is entered or withdrawn.
-use Rattle.std.proofs.Common.{◌≡◌, ℕ, zero, suc, ◌+◌, ◌-◌, ◌*◌, ◌<◌, ◌≤◌, max, Bool, true, false, cond, not, ◌||◌, eqb, ltb, leb, List, [], ◌∷◌, ◌++◌, length, get_or, take, replicate, is_some, Some, None, Ok, Err, vec_items, Option, sym, refl, ap, ◌∙◌, subst, ap₂, ⊎_elim, add-one, arith}
+use Rattle.std.proofs.Common.{◌≡◌, ℕ, zero, suc, ◌+◌, ◌-◌, ◌*◌, ◌<◌, ◌≤◌, max, Bool, true, false, cond, not, ◌||◌, eqb, ltb, leb, List, [], ◌∷◌, ◌++◌, length, get_or, take, replicate, is_some, Some, None, Ok, Err, Option, sym, refl, ap, ◌∙◌, subst, ap₂, ⊎_elim, add-one, arith}
 use native.Mathlib.Nat.{le-max_left, le-max_right}
 use Rattle.std.specs.Option.{option_map}
 use Rattle.std.specs.List.{AllByRecursion}
@@ -60,11 +60,11 @@ none_above n top [] a l = refl
 none_above n top (r ∷ rs) a l = ap₂ (λ x y. x || y) (ne_eqb r.number n (λ e. omega (arith, a.0))) (none_above n top rs a.1 l)
 
 -- the number is looked for below the root
-pub listed_root : (x : Index) (N : List Node) (n : ℕ) (r : Bool) → N ≡ vec_items x.nodes → ((d : ℕ) → r ≡ listed_in d N (x.root.height + 1) n (spot x.root.place)) → r ≡ lists n (rows_in (tree_in x))
+pub listed_root : (x : Index) (n : ℕ) (r : Bool) → length (plan_of x) ≡ x.nodes.dims → r ≡ listed_in x.nodes.dims x.nodes.places.items (x.root.height + 1) n (spot x.root.place) → r ≡ lists n (rows_in (tree_in x))
 unfolding listed_in
-listed_root x N n r is e =
-    e (length (plan_of x)) ∙ ap (λ h. listed_in (length (plan_of x)) N h n (spot x.root.place)) (add-one x.root.height)
-    ∙ ap (λ A. listed_in (length (plan_of x)) A (suc x.root.height) n (spot x.root.place)) is
+listed_root x n r d e =
+    e ∙ ap (λ h. listed_in x.nodes.dims x.nodes.places.items h n (spot x.root.place)) (add-one x.root.height)
+    ∙ ap (λ m. listed_in m x.nodes.places.items (suc x.root.height) n (spot x.root.place)) (sym d)
 
 -- ---- one row more
 module _ (d : ℕ) (t : Tree) (r : Row) (same : Same (r ∷ rows_in t) (rows_in (entered d t r))) where

@@ -22,12 +22,12 @@ module _ (plan : List ℕ) (capacity boxes : ℕ) where
   unfolding rest
   fine e = ap (λ x. x else rest) (sym (faults_refuse.0 plan) ∙ ap (option_map plan_refusal) (fault_none (plan_fault plan) e))
 
-  pub fit_capacity : {x : Unit {0}} → Ok x ≡ unless_fault (plan_fault plan) → (capacity < 1) ⊎ ((1 ≤ capacity) × (4096 < capacity)) → Some (refused_at 2 0 0) ≡ of_fit plan capacity boxes
+  pub fit_capacity : {x : Unit {0}} → Ok x ≡ unless_fault (plan_fault plan) → (capacity < 1) ⊎ (4096 < capacity) → Some (refused_at 2 0 0) ≡ of_fit plan capacity boxes
   unfolding rest
   fit_capacity e out = sym (fine e ∙ ap (λ t. when (not t) 2 else when (ltb boxes (max 1 (capacity / 2))) 3) bad)
     where
       bad : (leb 1 capacity && leb capacity 4096) ≡ false
-      bad = ⊎_elim (λ l. ap (λ t. t && leb capacity 4096) (lt-leb 1 capacity l)) (λ l. ap (λ t. t && leb capacity 4096) (le-leb 1 capacity l.0) ∙ lt-leb capacity 4096 l.1) out
+      bad = ⊎_elim (λ l. ap (λ t. t && leb capacity 4096) (lt-leb 1 capacity l)) (λ l. ap (λ t. t && leb capacity 4096) (le-leb 1 capacity (omega arith)) ∙ lt-leb capacity 4096 l) out
 
   good : 1 ≤ capacity → capacity ≤ 4096 → (leb 1 capacity && leb capacity 4096) ≡ true
   good l m = ap (λ t. t && leb capacity 4096) (le-leb 1 capacity l) ∙ le-leb capacity 4096 m

@@ -1,4 +1,5 @@
 pub mod Lists
+pub mod ReadNodes
 pub mod Cuts
 pub mod Parts
 pub mod Choosing

@@ -1,5 +1,5 @@
 -- The clips of a tree written to a list.
-use Rattle.std.proofs.Common.{◌≡◌, ℕ, zero, suc, ◌+◌, ◌-◌, ◌*◌, ◌/◌, ◌%◌, ◌^◌, ◌<◌, ◌≤◌, Bool, true, false, ltb, leb, List, [], ◌∷◌, ◌++◌, map, length, get_or, take, drop, set, replicate, Some, None, vec_items, sym, refl, ap, ◌∙◌, subst, ap₂, add-one, arith, length-set}
+use Rattle.std.proofs.Common.{◌≡◌, ℕ, zero, suc, ◌+◌, ◌-◌, ◌*◌, ◌/◌, ◌%◌, ◌^◌, ◌<◌, ◌≤◌, Bool, true, false, ltb, leb, List, [], ◌∷◌, ◌++◌, map, length, get_or, take, drop, set, replicate, Some, None, sym, refl, ap, ◌∙◌, subst, ap₂, add-one, arith, length-set}
 use Rattle.std.specs.List.{flat_map}
 use Rattle.std.proofs.lemmas.List.{append-nil, take_more, take_more_set, drop_more, take_all, drop-drop, drop-set-lt, flat_map_more, length-map, length-append, length_push, length-take-le, append_assoc, get_or_at, drop_all, map_more, take_at, drop_at, get_or_default, get_or_past}
 use Rattle.std.proofs.lemmas.Bool.{le-leb, lt-leb, leb-true}
@@ -87,7 +87,10 @@ module _ (N : List Node) (h q : ℕ) (e : NodeEntry) (es : List NodeEntry) (A B 
       omega (arith, w.more, w.long, c, total_room (λ x. length (clips_in N (h - 1) x)) es k no_entry l)
 
 -- ---- the clips of an index
-module _ (x : Index) (N : List Node) (isN : N ≡ vec_items x.nodes) where
+module _ (x : Index) where
+  abbrev N : List Node
+  N = x.nodes.places.items
+
   abbrev rows : List Row
   rows = rows_in (tree_in x)
 
@@ -95,8 +98,7 @@ module _ (x : Index) (N : List Node) (isN : N ≡ vec_items x.nodes) where
   unfolding entry_of
   root_rows =
       ap (λ h. stored_rows (length (plan_of x)) (clips_in N h (spot x.root.place))) (add-one x.root.height)
-      ∙ ap (λ A. stored_rows (length (plan_of x)) (clips_in A (suc x.root.height) (spot x.root.place))) isN
-      ∙ clips_rows (length (plan_of x)) (vec_items x.nodes) (suc x.root.height) (spot x.root.place)
+      ∙ clips_rows (length (plan_of x)) N (suc x.root.height) (spot x.root.place)
 
   root_count : length (clips_in N (x.root.height + 1) (spot x.root.place)) ≡ length rows
   root_count = sym (length-map (clips_in N (x.root.height + 1) (spot x.root.place)) (stored_row (length (plan_of x)))) ∙ ap length root_rows
@@ -105,8 +107,8 @@ module _ (x : Index) (N : List Node) (isN : N ≡ vec_items x.nodes) where
       → Within N (x.root.height + 1) (spot x.root.place) × (0 + length (clips_in N (x.root.height + 1) (spot x.root.place)) ≤ length A)
   ask_clips A l =
       let w = whole_of x in
-      let s = sound_within (vec_items x.nodes) (suc x.root.height) (spot x.root.place) w.stands.sound in (
-        subst (λ h. Within N h (spot x.root.place)) (sym (add-one x.root.height)) (subst (λ A. Within A (suc x.root.height) (spot x.root.place)) (sym isN) s),
+      let s = sound_within N (suc x.root.height) (spot x.root.place) w.stands.sound in (
+        subst (λ h. Within N h (spot x.root.place)) (sym (add-one x.root.height)) s,
         omega (arith, w.count, root_count),
       )
 

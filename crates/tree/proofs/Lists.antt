@@ -1,8 +1,11 @@
 -- Lists, with nothing of the catalogue.
-use Rattle.std.proofs.Common.{◌≡◌, ℕ, ◌+◌, ◌-◌, ◌<◌, Bool, true, false, List, [], ◌∷◌, ◌++◌, map, length, get_or, take, set, sym, refl, ap, ◌∙◌, ap₂, arith}
+use Rattle.std.proofs.Common.{◌≡◌, ℕ, ◌+◌, ◌-◌, ◌<◌, ◌≤◌, suc, Bool, true, false, List, [], ◌∷◌, ◌++◌, map, length, get_or, take, drop, replicate, set, sym, refl, ap, ◌∙◌, ap₂, add-one, arith}
 use mathlib.Core.Bool.{beq}
 use Rattle.rules.specs.Division.{alike}
-use Rattle.std.proofs.lemmas.List.{take_more, take_more_set, map_push}
+use borrow.Rule.Slice.PartMut.{put_mid}
+use Rattle.std.proofs.Math.Seq.{take-append-add, take-append_seam}
+use Rattle.std.proofs.lemmas.Slice.{take-put_mid}
+use Rattle.std.proofs.lemmas.List.{take-append-le, drop-append-le, drop-drop, take-take, length-append, length-drop, length-take, append_assoc, take_more, take_more_set, map_push}
 
 pub map_map : {X Y Z : Type 0} (f : Y → Z) (g : X → Y) (xs : List X) → map f (map g xs) ≡ map (λ x. f (g x)) xs
 map_map f g [] = refl
@@ -28,3 +31,26 @@ alike_beq false false = refl
 
 pub cut : {X : Type 0} (n : ℕ) (xs : List X) → take (n - 0) xs ≡ take n xs
 cut n xs = let z : n - 0 ≡ n = omega arith in ap (λ m. take m xs) z
+
+-- some entries, and in the place behind them one more
+pub one_more : {X : Type 0} (xs : List X) (x : X) → length xs ≤ 8 → take (length xs + 1) (xs ++ replicate (9 - length xs) x) ≡ xs ++ x ∷ []
+one_more xs x l =
+    let e : 9 - length xs ≡ suc (8 - length xs) = omega arith in
+    take-append-add xs (replicate (9 - length xs) x) 1 ∙ ap (λ m. xs ++ take 1 (replicate m x)) e
+
+-- the entry at p, put behind the others of es by a rotation, and left out
+pub rotated_out : {X : Type 0} (es rest all ys : List X) (p : ℕ) → p < length es → all ≡ es ++ rest → let part = take (length es - p) (drop p all) in ys ≡ drop 1 part ++ take 1 part
+    → take (length es - 1) (put_mid p (length es - p) all ys) ≡ take p es ++ drop (suc p) es
+rotated_out es rest all ys p l is turned =
+    let W = take p es ++ drop (suc p) es in
+    let long = length-drop p es in
+    let part : take (length es - p) (drop p all) ≡ drop p es =
+    ap (λ xs. take (length es - p) (drop p xs)) is ∙ ap (take (length es - p)) (drop-append-le p es rest (omega arith)) ∙ ap (λ n. take n (drop p es ++ rest)) (sym long) ∙ take-append_seam (drop p es) rest in
+    let z = take 1 (drop p es) in
+    let y : ys ≡ drop (suc p) es ++ z = turned ∙ ap (λ xs. drop 1 xs ++ take 1 xs) part ∙ ap (λ xs. xs ++ z) (drop-drop 1 p es ∙ ap (λ n. drop n es) (add-one p)) in
+    let front : take p all ≡ take p es = ap (take p) is ∙ take-append-le p es rest (omega arith) in
+    let many : length ys ≡ length es - p = ap length y ∙ length-append (drop (suc p) es) z ∙ omega (arith, length-drop (suc p) es, length-take 1 (drop p es), long) in
+    let whole : take (length es) (put_mid p (length es - p) all ys) ≡ W ++ z =
+    take-put_mid p (length es - p) all ys (length es) (omega arith) (omega (arith, ap length is, length-append es rest)) ∙ ap₂ (λ x y. x ++ y) front y ∙ sym (append_assoc (take p es) (drop (suc p) es) z) in
+    let w : length es - 1 ≡ length W = omega (arith, length-append (take p es) (drop (suc p) es), length-take p es, length-drop (suc p) es) in
+    sym (take-take (length es - 1) (length es) (put_mid p (length es - p) all ys) (omega arith)) ∙ ap (take (length es - 1)) whole ∙ ap (λ n. take n (W ++ z)) w ∙ take-append_seam W z

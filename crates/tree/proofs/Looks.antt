@@ -1,8 +1,9 @@
 -- Where a number is; the entries of a node but one, or but those of a number.
-use Rattle.std.proofs.Common.{◌≡◌, ℕ, zero, suc, ◌+◌, ◌-◌, ◌*◌, ◌/◌, ◌%◌, ◌^◌, ◌<◌, ◌≤◌, Bool, true, false, cond, ◌||◌, eqb, List, [], ◌∷◌, ◌++◌, map, length, get_or, take, drop, set, sym, refl, ap, ◌∙◌, pow-suc, div-one, arith}
-use Rattle.std.specs.List.{AllByRecursion}
+use Rattle.std.proofs.Common.{◌≡◌, ℕ, zero, suc, ◌+◌, ◌-◌, ◌*◌, ◌/◌, ◌%◌, ◌^◌, ◌<◌, ◌≤◌, Bool, true, false, cond, not, ltb, Some, None, ◌||◌, eqb, List, [], ◌∷◌, ◌++◌, map, length, get_or, take, drop, set, sym, refl, ap, ◌∙◌, pow-suc, div-one, arith}
+use Rattle.std.specs.List.{AllByRecursion, list_any, position, position_or_len}
+use Rattle.std.specs.Option.{unwrap_or}
 use Rattle.std.proofs.lemmas.List.{drop_more, drop_all, take_more_set, append_assoc, append-nil}
-use Rattle.std.proofs.lemmas.Bool.{or_right, or_left, or_from, ne_eqb}
+use Rattle.std.proofs.lemmas.Bool.{ne_eqb, ltb-false}
 use Rattle.space.specs.Boxes.{has}
 use Rattle.rules.specs.Division.{alike, group}
 use Rattle.space.specs.Row.{Row}
@@ -48,14 +49,9 @@ module _ (d : ℕ) (N : List Node) (n : ℕ) where
   lists_nil zero = refl
   lists_nil (suc h) = refl
 
-  pub lists_none : (h : ℕ) (es : List NodeEntry) → AllByRecursion (λ e. listed_in d N h n e ≡ false) es → lists n (rows_below h (map (entry_of d N h) es)) ≡ false
-  lists_none h [] a = lists_nil h
-  lists_none h (e ∷ es) a = lists_cons h e es ∙ or_from (listed_in d N h n e) (lists n (rows_below h (map (entry_of d N h) es))) a.0 (lists_none h es a.1)
-
-  pub lists_some : (h : ℕ) (es : List NodeEntry) (p : ℕ) → p < length es → listed_in d N h n (get_or es p no_entry) ≡ true → lists n (rows_below h (map (entry_of d N h) es)) ≡ true
-  lists_some h [] p l e = absurd (omega arith)
-  lists_some h (x ∷ es) zero l e = lists_cons h x es ∙ or_left (listed_in d N h n x) (lists n (rows_below h (map (entry_of d N h) es))) e
-  lists_some h (x ∷ es) (suc p) l e = lists_cons h x es ∙ or_right (listed_in d N h n x) (lists n (rows_below h (map (entry_of d N h) es))) (lists_some h es p (omega arith) e)
+  pub lists_any : (h : ℕ) (es : List NodeEntry) → list_any (listed_in d N h n) es ≡ lists n (rows_below h (map (entry_of d N h) es))
+  lists_any h [] = sym (lists_nil h)
+  lists_any h (e ∷ es) = ap (λ b. listed_in d N h n e || b) (lists_any h es) ∙ sym (lists_cons h e es)
 
   pub listed_up : (h : ℕ) (e : NodeEntry) → (h ≡ 0 → ⊥) → listed_in d N h n e ≡ lists n (rows_below (h - 1) (map (entry_of d N (h - 1)) (inside (node N (place_in e)))))
   unfolding listed_in entry_of
@@ -68,20 +64,30 @@ module _ (d : ℕ) (N : List Node) (n : ℕ) where
   holder_first h (e ∷ es) = ap (λ x. cond (listed_in d N (suc h) n e) 0 (suc x)) (holder_first h es)
 
 -- ---- the first that passes a test
-pub first_here : (p : NodeEntry → Bool) (es : List NodeEntry) (k : ℕ) → k < length es → p (get_or es k no_entry) ≡ true → first_index p es ≡ k + first_index p (drop k es) → k ≡ first_index p es
-first_here p es k l t e =
-    let z : first_index p (drop k es) ≡ 0 = ap (first_index p) (drop_more es k no_entry l) ∙ ap (λ b. cond b 0 (suc (first_index p (drop (k + 1) es)))) t in
-    omega arith
+first_position : (p : NodeEntry → Bool) (es : List NodeEntry) → position_or_len p es ≡ first_index p es
+first_position p [] = refl
+first_position p (e ∷ es) = go (p e) (first_position p es)
+  where
+    go : {n m : ℕ} (b : Bool) → n ≡ m → cond (not b) (1 + n) 0 ≡ cond b 0 (suc m)
+    go true q = refl
+    go false q = omega arith
 
-pub first_later : (p : NodeEntry → Bool) (es : List NodeEntry) (k : ℕ) → k < length es → p (get_or es k no_entry) ≡ false → first_index p es ≡ k + first_index p (drop k es) → first_index p es ≡ k + 1 + first_index p (drop (k + 1) es)
-first_later p es k l t e =
-    let z : first_index p (drop k es) ≡ suc (first_index p (drop (k + 1) es)) = ap (first_index p) (drop_more es k no_entry l) ∙ ap (λ b. cond b 0 (suc (first_index p (drop (k + 1) es)))) t in
-    omega arith
+first_within : (p : NodeEntry → Bool) (es : List NodeEntry) → first_index p es ≤ length es
+first_within p [] = omega arith
+first_within p (e ∷ es) = go (p e) (first_within p es)
+  where
+    go : {n m : ℕ} (b : Bool) → n ≤ m → cond b 0 (suc n) ≤ suc m
+    go true q = omega arith
+    go false q = omega arith
 
-pub first_none : (p : NodeEntry → Bool) (es : List NodeEntry) (k : ℕ) → k ≡ length es → first_index p es ≡ k + first_index p (drop k es) → length es ≡ first_index p es
-first_none p es k l e =
-    let z : first_index p (drop k es) ≡ 0 = ap (first_index p) (drop_all k es (omega arith)) in
-    omega arith
+-- the place where `position` finds one, and the length where it does not
+pub first_found : (p : NodeEntry → Bool) (es : List NodeEntry) → unwrap_or (position p es) (length es) ≡ first_index p es
+first_found p es =
+    ap (λ n. unwrap_or (cond (ltb n (length es)) (Some n) None) (length es)) (first_position p es) ∙ go (first_index p es) (length es) (ltb (first_index p es) (length es)) refl (first_within p es)
+  where
+    go : (n m : ℕ) (b : Bool) → ltb n m ≡ b → n ≤ m → unwrap_or (cond b (Some n) None) m ≡ n
+    go n m true e l = refl
+    go n m false e l = let k = ltb-false n m e in omega arith
 
 -- ---- the entries of a leaf but those of a number
 kept_at : (n : ℕ) (es : List NodeEntry) (i : ℕ) (t : Bool) → i < length es → eqb (clip_in (get_or es i no_entry)).number n ≡ t

@@ -1,7 +1,7 @@
 -- The tree of an entry moved out, and what stands at an entry above height 0.
-use Rattle.std.proofs.Common.{◌≡◌, ℕ, zero, suc, ◌+◌, ◌-◌, ◌*◌, ◌<◌, ◌≤◌, Bool, true, false, not, List, [], ◌∷◌, ◌++◌, map, length, get_or, take, drop, set, sym, refl, ap, ◌∙◌, subst, add-one, arith, length-set}
-use Rattle.std.specs.List.{flat_map, AllByRecursion}
-use Rattle.std.proofs.lemmas.List.{take_more, drop-set, take_all, length-append, length-take, flat_map_more, append-nil}
+use Rattle.std.proofs.Common.{◌≡◌, ℕ, zero, suc, ◌+◌, ◌-◌, ◌*◌, ◌<◌, ◌≤◌, List, [], ◌∷◌, ◌++◌, map, length, get_or, take, drop, set, sym, refl, ap, ◌∙◌, subst, add-one, arith, length-set}
+use Rattle.std.specs.List.{flat_map, AllByRecursion, list_any}
+use Rattle.std.proofs.lemmas.List.{take_more, drop-set, take_all, length-append, flat_map_more, append-nil}
 use Rattle.rules.specs.Tree.{rows_below}
 use Rattle.rules.specs.Rows.{lists}
 use Rattle.space.specs.declared.clip.StoredClip.{StoredClip}
@@ -10,18 +10,10 @@ use Rattle.tree.specs.declared.node.Node.{Node}
 use Rattle.tree.specs.Nodes.{no_entry, node, inside, clip_in, place_in, entry_of, Sound, Lettered, one, total, times}
 use Rattle.tree.specs.Leaving.{listed_in, asides, clips_in, count_in, Within, SetAside, stock}
 use Rattle.tree.proofs.Siblings.{total_append, total_take_le}
-use Rattle.tree.proofs.Looks.{lists_none, lists_some, listed_up}
+use Rattle.tree.proofs.Looks.{lists_any, listed_up}
 
 down : (g : ℕ) → g ≡ suc g - 1
 down g = omega arith
-
-pub flip_true : (b : Bool) → true ≡ not b → b ≡ false
-flip_true true e = e
-flip_true false e = refl
-
-pub flip_false : (b : Bool) → false ≡ not b → b ≡ true
-flip_false true e = refl
-flip_false false e = e
 
 -- the parts of what stands above height 0, at the place q of the entry
 pub sound_up : (N : List Node) (h : ℕ) (e : NodeEntry) → (h ≡ 0 → ⊥) → Sound N h e → (q : ℕ) → q ≡ place_in e → (q < length N) × ((node N q).len ≤ 8) × AllByRecursion (Sound N (h - 1)) (inside (node N q))
@@ -64,11 +56,8 @@ module _ (N : List Node) (n h : ℕ) (e : NodeEntry) (q : ℕ) (ne : h ≡ 0 →
   up_is : listed_in d N h n e ≡ lists n (rows_below (h - 1) (map (entry_of d N (h - 1)) es))
   up_is = listed_up d N n h e ne ∙ ap (λ p. lists n (rows_below (h - 1) (map (entry_of d N (h - 1)) (inside (node N p))))) (sym is) ∙ ap (λ x. lists n (rows_below (h - 1) (map (entry_of d N (h - 1)) x))) (sym es-is)
 
-  pub listed_found : (k : ℕ) → k < length es → listed_in d N (h - 1) n (get_or es k no_entry) ≡ true → listed_in d N h n e ≡ true
-  listed_found k l t = up_is ∙ lists_some d N n (h - 1) es k l t
-
-  pub listed_not : AllByRecursion (λ x. listed_in d N (h - 1) n x ≡ false) es → listed_in d N h n e ≡ false
-  listed_not a = up_is ∙ lists_none d N n (h - 1) es a
+  pub listed_any : list_any (listed_in d N (h - 1) n) es ≡ listed_in d N h n e
+  listed_any = lists_any d N n (h - 1) es ∙ sym up_is
 
 -- ---- sums over a list that is walked
 pub total_more : {E : Type 0} (f : E → ℕ) (es : List E) (k : ℕ) (d : E) → k < length es → total f (take (k + 1) es) ≡ total f (take k es) + f (get_or es k d)
@@ -197,6 +186,3 @@ walk_room N h q e es W V n m F G t u k ne is es-is l w a b f =
       omega (arith, w.top, d, total_room (count_in N (h - 1)) es k no_entry l),
       omega (arith, w.top, w.free, length-set F (t - 1) q),
     )
-
-pub cut_short : (n : ℕ) (es : List NodeEntry) → n ≤ 8 → length (take (n - 0) es) ≤ 8
-cut_short n es l = omega (arith, length-take (n - 0) es)

@@ -1,9 +1,8 @@
 -- An index as it is started.
-use Rattle.std.proofs.Common.{◌≡◌, ℕ, suc, ◌+◌, ◌-◌, ◌/◌, ◌<◌, ◌≤◌, max, Bool, true, false, cond, not, ◌&&◌, ltb, leb, List, [], ◌∷◌, ◌++◌, length, get_or, take, replicate, is_some, Some, None, vec_items, vec_len, Option, sym, refl, ap, ◌∙◌, subst, ap₂, subst₂, arith}
+use Rattle.std.proofs.Common.{◌≡◌, ℕ, suc, ◌+◌, ◌-◌, ◌/◌, ◌<◌, ◌≤◌, max, Bool, true, false, cond, not, ◌&&◌, ltb, leb, List, [], ◌∷◌, ◌++◌, length, get_or, take, replicate, is_some, Some, None, Option, sym, refl, ap, ◌∙◌, subst, ap₂, arith}
 use Rattle.std.specs.Option.{option_map}
 use Rattle.std.specs.List.{AllByRecursion}
-use Rattle.std.specs.Vec.{with_items}
-use Rattle.std.proofs.lemmas.List.{take-append-le, take_all, with_items_is}
+use Rattle.std.proofs.lemmas.List.{take-append-le, take_all}
 use Rattle.std.proofs.lemmas.Bool.{and_parts, leb-true, ltb-false}
 use Rattle.std.proofs.lemmas.Bool.Decides.{nat_tests}
 use Rattle.space.specs.Boxes.{dimensions}
@@ -124,18 +123,17 @@ module _ (plan : List ℕ) (capacity : ℕ) (N M : List Node) (F : List ℕ) (fi
       }
 
 -- the same of a table whose first box was written
-pub started : (plan : List ℕ) (capacity boxes : ℕ) (t : Table) (N M : List Node) (ten : List ℕ) → None ≡ of_fit plan capacity boxes → boxes ≡ table_boxes t → N ≡ vec_items t.nodes
-    → Written (length plan) N M 0 0 [] → ten ≡ plan ++ replicate (10 - length plan) 0 → let cut = take (length plan) ten in let L = (with_items t.nodes M).items in
-    Whole cut capacity 0 0 L (vec_items t.free) 1 0 0 × (standing cut capacity (tree_of (length cut) L 0 0) ≡ standing plan capacity (empty (length plan)))
-started plan capacity boxes t N M ten told e is w p =
-    let n : boxes ≡ length N - reserve = e ∙ ap (λ m. m - reserve) (t.nodes.ok.0 ∙ ap length (sym is)) in
+pub started : (plan : List ℕ) (capacity boxes : ℕ) (t : Table) (M : List Node) (ten : List ℕ) → None ≡ of_fit plan capacity boxes → boxes ≡ table_boxes t
+    → Written (length plan) t.nodes.items M 0 0 [] → ten ≡ plan ++ replicate (10 - length plan) 0 → let cut = take (length plan) ten in
+    Whole cut capacity 0 0 M t.free.items 1 0 0 × (standing cut capacity (tree_of (length cut) M 0 0) ≡ standing plan capacity (empty (length plan)))
+started plan capacity boxes t M ten told e w p =
+    let N = t.nodes.items in
+    let n : boxes ≡ length N - reserve = e ∙ ap (λ m. m - reserve) t.nodes.ok.0 in
     let fit : Fit plan capacity (length N - reserve) = subst (Fit plan capacity) n (fit_open plan capacity boxes (sym told)) in
-    let long : length N ≡ vec_len t.nodes = ap length is ∙ sym t.nodes.ok.0 in
-    let stack : length (vec_items t.free) ≡ length N = sym t.free.ok.0 ∙ t.long ∙ sym long in
-    let room : reserve ≤ length N = omega (arith, t.room) in
-    let each : (k : ℕ) → k < length N → get_or (vec_items t.free) k 0 ≡ k = λ k l. t.each k (omega arith) in
-    let cut : take (length plan) ten ≡ plan = ap (take (length plan)) p ∙ padded plan fit.axes in
-    let last : (with_items t.nodes M).items ≡ M = with_items_is t.nodes M (put_length (length plan) N M 0 0 [] w ∙ long) in (
-      subst₂ (λ v L. Whole v capacity 0 0 L (vec_items t.free) 1 0 0) (sym cut) (sym last) (start_whole plan capacity N M (vec_items t.free) fit room stack each w),
-      ap₂ (λ v L. standing v capacity (tree_of (length v) L 0 0)) cut last ∙ ap (standing plan capacity) (start_tree plan capacity N M (vec_items t.free) fit room stack each w),
+    let stack : length t.free.items ≡ length N = sym t.free.ok.0 ∙ t.long ∙ t.nodes.ok.0 in
+    let room : reserve ≤ length N = omega (arith, t.room, t.nodes.ok.0) in
+    let each : (k : ℕ) → k < length N → get_or t.free.items k 0 ≡ k = λ k l. t.each k (omega (arith, t.nodes.ok.0)) in
+    let cut : take (length plan) ten ≡ plan = ap (take (length plan)) p ∙ padded plan fit.axes in (
+      subst (λ v. Whole v capacity 0 0 M t.free.items 1 0 0) (sym cut) (start_whole plan capacity N M t.free.items fit room stack each w),
+      ap (λ v. standing v capacity (tree_of (length v) M 0 0)) cut ∙ ap (standing plan capacity) (start_tree plan capacity N M t.free.items fit room stack each w),
     )

@@ -100,6 +100,7 @@ module _ (d : ℕ) (N : List Node) (F : List ℕ) (t h i number : ℕ) (s : Stan
     -- ---- and the clips set aside entered again
     pub withdrew : (X : List ℕ) (L : List Node) (v b a : ℕ) → InOrder V X m → EnteredAgain d M L G X g j m m v b a → Withdrew d N L F G t h i number v b a
     withdrew X L v b a o e = record {
+      long = omega (arith, e.stands.stack, r.free, s.stack);
       tree = e.tree ∙ ap₂ (entered_all d) left_tree (o.rows d (subst Once (sym aside_rows) (aside_once d (tree_of d N h i) number s.build once listed)) ∙ ap rising aside_rows);
       stands = λ c old. record {
         axes = old.axes;

@@ -1,5 +1,5 @@
 -- What a withdrawal does to a table of nodes, a worklist of words and a stack of free places.
-use Rattle.std.specs.Prelude.{◌≡◌, ℕ, zero, suc, ◌+◌, ◌/◌, ◌%◌, ◌^◌, ◌<◌, ◌≤◌, Bool, cond, List, [], ◌∷◌, ◌++◌, map, length, take, drop, ◌==◌, ◌≢◌, nat_lt, slice_index}
+use Rattle.std.specs.Prelude.{◌≡◌, ℕ, zero, suc, ◌+◌, ◌*◌, ◌/◌, ◌%◌, ◌^◌, ◌<◌, ◌≤◌, Bool, cond, List, [], ◌∷◌, ◌++◌, map, length, take, drop, ◌==◌, ◌≢◌, nat_lt, slice_index}
 use Rattle.std.specs.List.{flat_map, AllByRecursion}
 use Rattle.space.specs.Row.{Row}
 use Rattle.rules.specs.Tree.{Entry, boxed, rows_below}
@@ -65,6 +65,10 @@ pub record SetAside (N : List Node) (h : ℕ) (e : NodeEntry) (W V : List ℕ) (
   pub freed : (k : ℕ) → stock G u k ≡ stock F t k + times N h e k
   pub top : u + count_in N h e ≡ t
   pub free : length G ≡ length F
+
+-- there is room for the tree of an entry to be moved out: in as many words, of which n clips are set aside already, and below the place t of the stack
+abbrev pub RoomFor : List Node → ℕ → NodeEntry → ℕ → ℕ → ℕ → Type 0
+RoomFor N h e words n t = (2 * (n + length (clips_in N h e)) ≤ words) × (count_in N h e ≤ t)
 
 -- ---- a clip taken out
 abbrev pub rows_of : (h : ℕ) → Entry h → List Row

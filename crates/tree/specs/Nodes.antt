@@ -1,5 +1,6 @@
 -- What a table of nodes stands for.
 use Rattle.std.specs.Prelude.{◌≡◌, ℕ, zero, suc, ◌+◌, ◌<◌, ◌≤◌, Bool, true, cond, List, [], ◌∷◌, map, length, take, replicate, Some, None, Option, ◌==◌, ◌≢◌, slice_index, slice_index_or, slice_set}
+use Rattle.std.proofs.Common.{lit≤}
 use Rattle.space.specs.Boxes.{around}
 use Rattle.std.specs.List.{AllByRecursion}
 use Rattle.rules.specs.Choice.{chosen}
@@ -14,7 +15,7 @@ use Rattle.tree.specs.declared.node.Node.{Node}
 
 -- what the checker reads past the end of a table
 abbrev pub no_node : Node
-no_node = record { sets = []; len = 0; entries = [] }
+no_node = record { sets = []; len = 0; entries = []; few = lit≤ tt }
 
 abbrev pub no_clip : StoredClip
 no_clip = record { number = 0; letters = replicate 10 0 }
@@ -74,6 +75,10 @@ Lettered c = (k : ℕ) → slice_index c.letters k < 64
 unfoldable pub Sound : List Node → ℕ → NodeEntry → Type 0
 Sound N zero e = Lettered (clip_in e)
 Sound N (suc h) e = (place_in e < length N) × (least h ≤ (node N (place_in e)).len) × ((node N (place_in e)).len ≤ 8) × AllByRecursion (Sound N h) (inside (node N (place_in e)))
+
+-- the node i stands in the table, and its entries, of height h, are sound
+abbrev pub SoundIn : List Node → ℕ → ℕ → Type 0
+SoundIn N h i = (i < length N) × AllByRecursion (Sound N h) (inside (node N i))
 
 -- the division, under a name that `omega` does not unfold
 unfoldable pub divided : ℕ → List (List ℕ) → ℕ

@@ -41,6 +41,7 @@ pub record EnteredAgain (d : ℕ) (N M : List Node) (F W : List ℕ) (h i n k u 
 
 -- the number withdrawn: the table M, with the stack G, is N, with the stack F, after it
 pub record Withdrew (d : ℕ) (N M : List Node) (F G : List ℕ) (t h i number u g j : ℕ) : Type 0 where
+  pub long : length M ≡ length N
   pub tree : tree_of d M g j ≡ withdrawn d (tree_of d N h i) number
   pub stands : (c : ℕ) → Stands d c N F t h i → Stands d c M G u g j
 

@@ -11,12 +11,9 @@ ghost use Rattle.tree.specs.Calls.{stored_or, Entered, Left, Does};
 ghost use Rattle.tree.specs.Nodes.{Lettered};
 ghost use Rattle.tree.specs.Seen.{plan_of, tree_in};
 
-use crate::entering::enter_clip;
 use crate::index::Index;
-use crate::leaving::withdraw_listed;
-use crate::lookup::is_listed;
-use crate::node::{NodeEntry, Root};
-use crate::starting::ten_of;
+use crate::node::NodeEntry;
+use crate::padded::padded;
 use refusals::{Refusal, StateFault};
 use space::{ClipFault, StoredClip, check_clip};
 
@@ -28,7 +25,7 @@ fn store_clip(plan: &[u8], number: u32, letters: &[u8]) -> Result<StoredClip, Cl
     check_clip(plan, number, letters)?;
     Ok(StoredClip {
         number,
-        letters: ten_of(letters),
+        letters: padded(letters, 0),
     })
 }
 
@@ -38,7 +35,7 @@ impl Index {
         ensures value { result.now ≡ plan_of self.now }
         ensures axes { dimensions (length result.now) ≡ true }
     {
-        &self.sizes[0..self.dims]
+        &self.sizes[..self.nodes.dims]
     }
 
     // Whether a clip of that number is listed. One above the highest is not, so that clips in rising number are entered without a look at all.
@@ -46,8 +43,7 @@ impl Index {
         ensures { result ≡ lists number (rows_in (tree_in self.now)) }
     {
         number <= self.highest
-            && is_listed(
-                &self.nodes,
+            && self.nodes.is_listed(
                 self.root.height + 1,
                 NodeEntry::Place(self.root.place),
                 number,
@@ -62,21 +58,7 @@ impl Index {
         requires room { length (rows_in (tree_in self.old)) < self.old.capacity }
         ensures { Entered self.old self.new clip }
     {
-        let at = self.root;
-        let (place, height, used) = enter_clip(
-            &mut self.nodes,
-            &self.free,
-            at.used,
-            self.dims,
-            at.height,
-            at.place,
-            clip,
-        );
-        self.root = Root {
-            place,
-            height,
-            used,
-        };
+        self.root = self.nodes.enter_clip(&mut self.free, self.root, clip);
         self.clips += 1;
         self.highest = self.highest.max(clip.number);
     }
@@ -102,15 +84,9 @@ impl Index {
         requires words { 2 * length (rows_in (tree_in self.old)) ≤ length worklist.old }
         ensures { Left self.old self.new number }
     {
-        let root = withdraw_listed(
-            &mut self.nodes,
-            &mut self.free,
-            self.root,
-            self.dims,
-            number,
-            worklist,
-        );
-        self.root = root;
+        self.root = self
+            .nodes
+            .withdraw(&mut self.free, self.root, number, worklist);
         self.clips -= 1;
         // An empty index takes any number for a new one.
         if self.clips == 0 {

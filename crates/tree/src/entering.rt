@@ -1,131 +1,109 @@
 // How a clip enters the tree.
 ghost use Rattle.std.specs.Prelude.{◌≡◌, ℕ, suc, ◌+◌, ◌<◌, ◌≤◌, length, slice_index, slice_index_or};
-ghost use Rattle.std.specs.List.{AllByRecursion};
 ghost use Rattle.tree.specs.Leaving.{EachOnce, EnteredClip};
-ghost use Rattle.tree.specs.Nodes.{Sound, Lettered, EnteredBelow, EnteredRoot, times, held, inside, node, no_entry, spot, place_in, place_of};
+ghost use Rattle.tree.specs.Nodes.{Sound, SoundIn, Lettered, EnteredBelow, EnteredRoot, times, held, inside, node, no_entry, spot, place_in, place_of};
 
 use crate::choice::choose;
-use crate::node::{Node, NodeEntry, place_in};
-use crate::writing::{add_entry, boxes_of, rebox, write_node};
+use crate::free::FreePlaces;
+use crate::node::NodeEntry;
+use crate::nodes::{Nodes, Subtree};
 use space::StoredClip;
 
-// The place of the node below `at` that a clip is to go to.
-pub(crate) fn choose_child(
-    nodes: &[Node],
-    dims: usize,
-    height: usize,
-    at: usize,
-    clip: StoredClip,
-) -> usize
-    requires axes { dims ≤ 10 }
-    requires clip { Lettered clip }
-    requires within { at < length nodes.now }
-    requires some { 0 < (node nodes.now at).len }
-    requires few { (node nodes.now at).len ≤ 8 }
-    requires sound { AllByRecursion (Sound nodes.now height) (inside (node nodes.now at)) }
-    ensures place { place_of dims nodes.now height at clip < length (inside (node nodes.now at)) }
-    ensures child { result ≡ place_in (slice_index_or (inside (node nodes.now at)) (place_of dims nodes.now height at clip) no_entry) }
-{
-    let n = nodes[at];
-    let boxes = boxes_of(nodes, dims, height, &n.entries[0..n.len]);
-    let place = choose(&boxes[0..n.len], dims, clip.letters);
-    place_in(n.entries[place])
-}
+impl Nodes {
+    // The place of the node below another that a clip is to go to.
+    pub(crate) fn choose_child(&self, at: Subtree, clip: StoredClip) -> usize
+        requires clip { Lettered clip }
+        requires some { 0 < (node self.now.places.items at.place).len }
+        requires sound { SoundIn self.now.places.items at.height at.place }
+        ensures place { place_of self.now.dims self.now.places.items at.height at.place clip < length (inside (node self.now.places.items at.place)) }
+        ensures child { result ≡ place_in (slice_index_or (inside (node self.now.places.items at.place)) (place_of self.now.dims self.now.places.items at.height at.place clip) no_entry) }
+    {
+        let entries = self.places[at.place].entries();
+        let boxes = self.boxes_of(at.height, entries);
+        let place = choose(&boxes[..entries.len()], self.dims, clip.letters);
+        entries[place].place()
+    }
 
-// Enters a clip below the node `at`, which stands `height` above the leaves, and says how many of the spare nodes it used.
-pub(crate) fn enter_below(
-    nodes: &mut [Node],
-    spare: &[usize],
-    dims: usize,
-    height: usize,
-    at: usize,
-    clip: StoredClip,
-) -> usize
-    requires axes { dims ≤ 10 }
-    requires clip { Lettered clip }
-    requires sound { Sound nodes.old (suc height) (spot at) }
-    requires room { height < length spare.now }
-    requires spares { (k : ℕ) → k < length spare.now → slice_index spare.now k < length nodes.old }
-    requires apart { (k : ℕ) → times nodes.old (suc height) (spot at) k + held spare.now (suc height) k ≤ 1 }
-    ensures { EnteredBelow dims nodes.old nodes.new spare.now height at clip result }
-{
-    if height == 0 {
-        if add_entry(
-            nodes,
-            dims,
-            height,
-            at,
-            spare[height],
-            NodeEntry::Clip(clip),
-        ) {
-            return 1;
+    // Enters a clip below a node, and says how many of the spare places it used.
+    pub(crate) fn enter_below(&mut self, spare: &[usize], at: Subtree, clip: StoredClip) -> usize
+        requires clip { Lettered clip }
+        requires sound { Sound self.old.places.items (suc at.height) (spot at.place) }
+        requires room { at.height < length spare.now }
+        requires spares { (k : ℕ) → k < length spare.now → slice_index spare.now k < length self.old.places.items }
+        requires apart { (k : ℕ) → times self.old.places.items (suc at.height) (spot at.place) k + held spare.now (suc at.height) k ≤ 1 }
+        ensures entered { EnteredBelow self.old.dims self.old.places.items self.new.places.items spare.now at.height at.place clip result }
+        ensures dims { self.new.dims ≡ self.old.dims }
+    {
+        let height = at.height;
+        if height == 0 {
+            if self.add(at, spare[height], NodeEntry::Clip(clip)) {
+                return 1;
+            }
+            return 0;
         }
-        return 0;
+        let child = Subtree {
+            place: self.choose_child(at, clip),
+            height: height - 1,
+        };
+        let used = self.enter_below(spare, child, clip);
+        if used < height {
+            self.rebox(at);
+            return used;
+        }
+        if self.add(at, spare[height], NodeEntry::Place(spare[height - 1])) {
+            return height + 1;
+        }
+        height
     }
-    let child = choose_child(nodes, dims, height, at, clip);
-    let used = enter_below(nodes, spare, dims, height - 1, child, clip);
-    if used < height {
-        rebox(nodes, dims, height, at);
-        return used;
-    }
-    if add_entry(
-        nodes,
-        dims,
-        height,
-        at,
-        spare[height],
-        NodeEntry::Place(spare[height - 1]),
-    ) {
-        return height + 1;
-    }
-    height
-}
 
-// Enters a clip in the tree of the root `root`, and says the root and the height after, and how many of the spare nodes it used.
-pub(crate) fn enter_root(
-    nodes: &mut [Node],
-    spare: &[usize],
-    dims: usize,
-    height: usize,
-    root: usize,
-    clip: StoredClip,
-) -> (usize, usize, usize)
-    requires axes { dims ≤ 10 }
-    requires clip { Lettered clip }
-    requires sound { Sound nodes.old (suc height) (spot root) }
-    requires room { suc height < length spare.now }
-    requires spares { (k : ℕ) → k < length spare.now → slice_index spare.now k < length nodes.old }
-    requires apart { (k : ℕ) → times nodes.old (suc height) (spot root) k + held spare.now (suc (suc height)) k ≤ 1 }
-    ensures { EnteredRoot dims nodes.old nodes.new spare.now height root clip result.1 result.0 result.2 }
-{
-    let used = enter_below(nodes, spare, dims, height, root, clip);
-    if used <= height {
-        return (root, height, used);
+    // Enters a clip in the tree of a root, and says the root after and how many of the spare places it used.
+    pub(crate) fn enter_root(
+        &mut self,
+        spare: &[usize],
+        root: Subtree,
+        clip: StoredClip,
+    ) -> (Subtree, usize)
+        requires clip { Lettered clip }
+        requires sound { Sound self.old.places.items (suc root.height) (spot root.place) }
+        requires room { suc root.height < length spare.now }
+        requires spares { (k : ℕ) → k < length spare.now → slice_index spare.now k < length self.old.places.items }
+        requires apart { (k : ℕ) → times self.old.places.items (suc root.height) (spot root.place) k + held spare.now (suc (suc root.height)) k ≤ 1 }
+        ensures entered { EnteredRoot self.old.dims self.old.places.items self.new.places.items spare.now root.height root.place clip result.0.height result.0.place result.1 }
+        ensures dims { self.new.dims ≡ self.old.dims }
+    {
+        let used = self.enter_below(spare, root, clip);
+        if used <= root.height {
+            return (root, used);
+        }
+        let top = Subtree {
+            place: spare[root.height + 1],
+            height: root.height + 1,
+        };
+        let both = [
+            NodeEntry::Place(root.place),
+            NodeEntry::Place(spare[root.height]),
+        ];
+        self.write(top, &both);
+        (top, root.height + 2)
     }
-    let top = spare[height + 1];
-    let both = [NodeEntry::Place(root), NodeEntry::Place(spare[height])];
-    write_node(nodes, dims, height + 1, top, &both);
-    (top, height + 1, height + 2)
-}
 
-// Enters a clip in the tree of the root `root`, with nodes from the stack of free places, which begins at `top`. Says the root and the height after, and where the stack begins.
-pub(crate) fn enter_clip(
-    nodes: &mut [Node],
-    free: &[usize],
-    top: usize,
-    dims: usize,
-    height: usize,
-    root: usize,
-    clip: StoredClip,
-) -> (usize, usize, usize)
-    requires axes { dims ≤ 10 }
-    requires clip { Lettered clip }
-    requires sound { Sound nodes.old (suc height) (spot root) }
-    requires spread { EachOnce nodes.old free.now top height root }
-    requires room { top + height + 2 ≤ length free.now }
-    ensures { EnteredClip dims nodes.old nodes.new free.now top height root clip result.2 result.1 result.0 }
-{
-    let spare = &free[top..free.len()];
-    let (j, g, used) = enter_root(nodes, spare, dims, height, root, clip);
-    (j, g, top + used)
+    // Enters a clip in the tree of a root, with places from the stack of the free ones, and says the root after.
+    pub(crate) fn enter_clip(
+        &mut self,
+        free: &mut FreePlaces,
+        root: Subtree,
+        clip: StoredClip,
+    ) -> Subtree
+        requires clip { Lettered clip }
+        requires sound { Sound self.old.places.items (suc root.height) (spot root.place) }
+        requires spread { EachOnce self.old.places.items free.old.places.items free.old.used root.height root.place }
+        requires room { free.old.used + root.height + 2 ≤ length free.old.places.items }
+        ensures entered { EnteredClip self.old.dims self.old.places.items self.new.places.items free.old.places.items free.old.used root.height root.place clip free.new.used result.height result.place }
+        ensures dims { self.new.dims ≡ self.old.dims }
+        ensures free { free.new.places.items ≡ free.old.places.items }
+    {
+        let (after, used) = self.enter_root(&free.places[free.used..], root, clip);
+        free.used += used;
+        after
+    }
 }

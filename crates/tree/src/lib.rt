@@ -8,17 +8,21 @@ mod choice;
 mod division;
 mod entering;
 mod fixed;
+mod free;
 mod index;
 mod leaving;
 mod listing;
 mod lookup;
 mod making;
 mod node;
+mod nodes;
+mod padded;
 mod starting;
 mod table;
 #[cfg(test)]
 mod tests;
 mod withdrawing;
+mod worklist;
 mod writing;
 
 pub use index::Index;

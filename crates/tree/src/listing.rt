@@ -7,7 +7,8 @@ ghost use Rattle.tree.specs.Listing.{Copied, Listed, Ordered, clip_of, keys_from
 ghost use Rattle.tree.specs.Seen.{tree_in};
 
 use crate::index::Index;
-use crate::node::{Node, NodeEntry, clip_in, place_in};
+use crate::node::NodeEntry;
+use crate::nodes::Nodes;
 use ranked::sort_words;
 use space::StoredClip;
 
@@ -17,30 +18,30 @@ const MOST: usize = 4096;
 // How many numbers a clip can have: a key is one of them times this, and a place below it.
 const NUMBERS: u64 = 0x1_0000_0000;
 
-// Copies the clips of the tree of an entry behind the n that are there, and says how many there are then.
-pub(crate) fn copy_clips(
-    nodes: &[Node],
-    height: usize,
-    e: NodeEntry,
-    out: &mut [StoredClip],
-    n: usize,
-) -> usize
-    requires within { Within nodes.now height e }
-    requires room { n + length (clips_in nodes.now height e) ≤ length out.old }
-    ensures { Copied nodes.now height e out.old out.new n result }
-{
-    if height == 0 {
-        out[n] = clip_in(e);
-        return n + 1;
+impl Nodes {
+    // Copies the clips of the tree of an entry behind the n that are there, and says how many there are then.
+    pub(crate) fn copy_clips(
+        &self,
+        height: usize,
+        e: NodeEntry,
+        out: &mut [StoredClip],
+        n: usize,
+    ) -> usize
+        requires within { Within self.now.places.items height e }
+        requires room { n + length (clips_in self.now.places.items height e) ≤ length out.old }
+        ensures { Copied self.now.places.items height e out.old out.new n result }
+    {
+        if height == 0 {
+            out[n] = e.clip();
+            return n + 1;
+        }
+        let entries = self.places[e.place()].entries();
+        let mut many = n;
+        for entry in entries {
+            many = self.copy_clips(height - 1, *entry, out, many);
+        }
+        many
     }
-    let at = place_in(e);
-    let node = nodes[at];
-    let es = &node.entries[0..node.len];
-    let mut many = n;
-    for k in 0..es.len() {
-        many = copy_clips(nodes, height - 1, es[k], out, many);
-    }
-    many
 }
 
 // Writes a key for each clip: its number, and in the lower 32 bits where it stands.
@@ -127,7 +128,7 @@ impl Index {
     pub fn boxes(&self) -> usize
         ensures { result ≡ boxes_in (tree_in self.now) }
     {
-        self.root.used
+        self.free.used
     }
 
     // Writes the listed clips to the front of `out`, from the first leaf to the last, and says how many; nothing where there is not room for all.
@@ -137,13 +138,14 @@ impl Index {
         if out.len() < self.clips {
             return None;
         }
-        Some(copy_clips(
-            &self.nodes,
-            self.root.height + 1,
-            NodeEntry::Place(self.root.place),
-            out,
-            0,
-        ))
+        Some(
+            self.nodes.copy_clips(
+                self.root.height + 1,
+                NodeEntry::Place(self.root.place),
+                out,
+                0,
+            ),
+        )
     }
 
     // Writes the listed clips to the front of `out` in rising number, and says how many; nothing where there is not room for all.

@@ -1,55 +1,48 @@
 // Where a clip stands in the tree.
-ghost use Rattle.std.specs.Prelude.{◌≡◌, ℕ, ◌<◌, ◌≤◌, length, slice_index_or};
-ghost use Rattle.std.specs.List.{AllByRecursion};
+ghost use Rattle.std.specs.Prelude.{◌≡◌, ◌<◌, length, slice_index_or};
 ghost use Rattle.tree.specs.Leaving.{listed_in, first_index};
-ghost use Rattle.tree.specs.Nodes.{Sound, inside, node, no_entry, place_in};
+ghost use Rattle.tree.specs.Nodes.{Sound, SoundIn, inside, node, no_entry, place_in};
 
-use crate::node::{Node, NodeEntry, clip_in, place_in};
+use crate::node::NodeEntry;
+use crate::nodes::{Nodes, Subtree};
 
-// Whether the number is among the clips of an entry.
-pub(crate) fn is_listed(nodes: &[Node], height: usize, e: NodeEntry, number: u32) -> bool
-    requires { Sound nodes.now height e }
-    ensures { (d : ℕ) → result ≡ listed_in d nodes.now height number e }
-{
-    if height == 0 {
-        let c = clip_in(e);
-        return c.number == number;
-    }
-    let node = nodes[place_in(e)];
-    let es = &node.entries[0..node.len];
-    for k in 0..es.len() {
-        if is_listed(nodes, height - 1, es[k], number) {
-            return true;
+impl Nodes {
+    // Whether the number is among the clips of an entry.
+    pub(crate) fn is_listed(&self, height: usize, e: NodeEntry, number: u32) -> bool
+        requires { Sound self.now.places.items height e }
+        ensures { result ≡ listed_in self.now.dims self.now.places.items height number e }
+    {
+        if height == 0 {
+            return e.clip().number == number;
         }
+        // The closure states what it asks and gives, since its call leads back to this function.
+        let below = height - 1;
+        self.places[e.place()].entries().iter().any(
+            |entry| -> bool
+                requires { Sound self.now.places.items below entry.now }
+                ensures { result ≡ listed_in self.entry.now.dims self.entry.now.places.items below number entry.now }
+            { self.is_listed(below, *entry, number) },
+        )
     }
-    false
-}
 
-// The place of the first entry of the node `at` that has the number below it.
-pub(crate) fn holder_of(nodes: &[Node], height: usize, at: usize, number: u32) -> usize
-    requires within { at < length nodes.now }
-    requires few { (node nodes.now at).len ≤ 8 }
-    requires sound { AllByRecursion (Sound nodes.now height) (inside (node nodes.now at)) }
-    ensures { (d : ℕ) → result ≡ first_index (listed_in d nodes.now height number) (inside (node nodes.now at)) }
-{
-    let node = nodes[at];
-    let es = &node.entries[0..node.len];
-    for k in 0..es.len() {
-        if is_listed(nodes, height, es[k], number) {
-            return k;
-        }
+    // The place of the first entry of a node that has the number below it; past the last where there is none.
+    pub(crate) fn holder_of(&self, at: Subtree, number: u32) -> usize
+        requires { SoundIn self.now.places.items at.height at.place }
+        ensures { result ≡ first_index (listed_in self.now.dims self.now.places.items at.height number) (inside (node self.now.places.items at.place)) }
+    {
+        let entries = self.places[at.place].entries();
+        entries
+            .iter()
+            .position(|entry| self.is_listed(at.height, *entry, number))
+            .unwrap_or(entries.len())
     }
-    es.len()
-}
 
-// The place of the node at p among the entries of `at`.
-pub(crate) fn child_of(nodes: &[Node], at: usize, p: usize) -> usize
-    requires within { at < length nodes.now }
-    requires place { p < length (inside (node nodes.now at)) }
-    requires few { (node nodes.now at).len ≤ 8 }
-    ensures { result ≡ place_in (slice_index_or (inside (node nodes.now at)) p no_entry) }
-{
-    let node = nodes[at];
-    let es = &node.entries[0..node.len];
-    place_in(es[p])
+    // The place of the node at p among the entries of another.
+    pub(crate) fn child_of(&self, at: usize, p: usize) -> usize
+        requires within { at < length self.now.places.items }
+        requires place { p < length (inside (node self.now.places.items at)) }
+        ensures { result ≡ place_in (slice_index_or (inside (node self.now.places.items at)) p no_entry) }
+    {
+        self.places[at].entries()[p].place()
+    }
 }

@@ -21,14 +21,8 @@ impl Table {
     pub fn new(heap: Global, boxes: usize) -> Result<Table, AllocError>
         ensures { IfOk result (λ t. table_boxes t ≡ boxes) }
     {
-        let Some(places) = boxes.checked_add(RESERVE) else {
-            return Err(AllocError);
-        };
-        let nodes = vec![in heap; BLANK; places]?;
-        let mut free = Vec::with_capacity(heap, places)?;
-        for place in 0..places {
-            free.push(place)?;
-        }
+        let nodes = vec![in heap; BLANK; boxes.saturating_add(RESERVE)]?;
+        let free = (0..nodes.len()).collect(heap)?;
         Ok(Table { nodes, free })
     }
 

@@ -1,8 +1,8 @@
 // The boxes of a table, and their entries.
-ghost use Rattle.tree.specs.Nodes.{clip_in, place_in};
-ghost use Rattle.std.specs.Prelude.{◌≡◌};
+ghost use Rattle.std.specs.Prelude.{◌≤◌};
 
 use crate::fixed::Sets;
+use crate::padded::padded;
 use space::StoredClip;
 
 // An entry of a box: a clip in a leaf, the place of a box above.
@@ -13,41 +13,66 @@ pub enum NodeEntry {
     Place(usize),
 }
 
+impl NodeEntry {
+    ghost use Rattle.std.specs.Prelude.{◌≡◌};
+    ghost use Rattle.tree.specs.Nodes.{clip_in, place_in};
+
+    // The clip of an entry.
+    pub(crate) fn clip(self) -> StoredClip
+        ensures { result ≡ clip_in self }
+    {
+        match self {
+            NodeEntry::Clip(c) => c,
+            _ => StoredClip {
+                number: 0,
+                letters: [0; 10],
+            },
+        }
+    }
+
+    // The place of an entry.
+    pub(crate) fn place(self) -> usize
+        ensures { result ≡ place_in self }
+    {
+        match self {
+            NodeEntry::Place(p) => p,
+            _ => 0,
+        }
+    }
+}
+
 // A box of the tree: its sets of letters, and its entries, of which the first `len` are in use.
 #[derive(Clone, Copy)]
 pub struct Node {
     pub(crate) sets: Sets,
     pub(crate) len: usize,
     pub(crate) entries: [NodeEntry; 8],
+    ghost few: { len ≤ 8 },
 }
 
-// The root of a tree: its place, its height, and how many boxes the tree has, which is where the stack of free places begins.
-#[derive(Clone, Copy)]
-pub struct Root {
-    pub(crate) place: usize,
-    pub(crate) height: usize,
-    pub(crate) used: usize,
-}
+impl Node {
+    ghost use Rattle.std.specs.Prelude.{◌≡◌, length};
+    ghost use Rattle.tree.specs.Nodes.{inside};
 
-// The clip of an entry.
-pub(crate) fn clip_in(e: NodeEntry) -> StoredClip
-    ensures { result ≡ clip_in e }
-{
-    match e {
-        NodeEntry::Clip(c) => c,
-        _ => StoredClip {
-            number: 0,
-            letters: [0; 10],
-        },
+    // A box of those sets and entries.
+    pub(crate) fn new(sets: Sets, entries: &[NodeEntry]) -> Node
+        requires { length entries.now ≤ 8 }
+        ensures sets { result.sets ≡ sets }
+        ensures long { result.len ≡ length entries.now }
+        ensures entries { inside result ≡ entries.now }
+    {
+        Node {
+            sets,
+            len: entries.len(),
+            entries: padded(entries, NodeEntry::Free),
+        }
     }
-}
 
-// The place of an entry.
-pub(crate) fn place_in(e: NodeEntry) -> usize
-    ensures { result ≡ place_in e }
-{
-    match e {
-        NodeEntry::Place(p) => p,
-        _ => 0,
+    // The entries in use.
+    pub(crate) fn entries(&self) -> &[NodeEntry]
+        ensures entries { result.now ≡ inside self.now }
+        ensures long { length result.now ≡ self.now.len }
+    {
+        &self.entries[..self.len]
     }
 }

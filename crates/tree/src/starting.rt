@@ -7,10 +7,11 @@ ghost use Rattle.rules.specs.Tree.{empty};
 ghost use Rattle.tree.specs.Seen.{seen_index, index_boxes};
 ghost use Rattle.tree.specs.Tables.{table_boxes};
 
+use crate::free::FreePlaces;
 use crate::index::Index;
-use crate::node::Root;
+use crate::nodes::{Nodes, Subtree};
+use crate::padded::padded;
 use crate::table::Table;
-use crate::writing::write_node;
 use refusals::{FitFault, Refusal};
 use space::check_plan;
 
@@ -22,23 +23,13 @@ pub fn fit(plan: &[u8], capacity: u32, boxes: usize) -> Result<(), Refusal>
     ensures { refusal_of result ≡ of_fit plan.now capacity boxes }
 {
     check_plan(plan)?;
-    if capacity < 1 || capacity > MOST {
+    if !(1..=MOST).contains(&capacity) {
         return Err(Refusal::Fit(FitFault::Capacity));
     }
     if boxes < (capacity as usize / 2).max(1) {
         return Err(Refusal::Fit(FitFault::Table));
     }
     Ok(())
-}
-
-// Up to ten bytes, and zeros behind them.
-pub(crate) fn ten_of(bytes: &[u8]) -> [u8; 10]
-    requires { length bytes.now ≤ 10 }
-    ensures { result ≡ bytes.now ++ replicate (10 - length bytes.now) 0 }
-{
-    let mut ten = [0; 10];
-    ten[..bytes.len()].copy_from_slice(bytes);
-    ten
 }
 
 impl Index {
@@ -48,20 +39,25 @@ impl Index {
         ensures made { IfOk result (λ x. (seen_index x ≡ standing plan.now capacity (empty (length plan.now))) × (index_boxes x ≡ table_boxes table)) }
     {
         fit(plan, capacity, table.boxes())?;
-        let sizes = ten_of(plan);
-        let Table { mut nodes, free } = table;
-        write_node(&mut nodes, plan.len(), 0, 0, &[]);
-        Ok(Index {
-            sizes,
+        let Table { nodes, free } = table;
+        let mut nodes = Nodes {
             dims: plan.len(),
+            places: nodes,
+        };
+        let root = Subtree {
+            place: 0,
+            height: 0,
+        };
+        nodes.write(root, &[]);
+        Ok(Index {
+            sizes: padded(plan, 0),
             capacity,
             nodes,
-            free,
-            root: Root {
-                place: 0,
-                height: 0,
+            free: FreePlaces {
+                places: free,
                 used: 1,
             },
+            root,
             clips: 0,
             highest: 0,
         })

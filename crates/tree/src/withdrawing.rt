@@ -1,169 +1,138 @@
 // How a clip leaves the tree.
 ghost use Rattle.std.specs.Prelude.{◌≡◌, ℕ, suc, ◌+◌, ◌*◌, ◌<◌, ◌≤◌, true, not, ◌++◌, length, take, drop, ◌==◌, ◌≢◌};
 ghost use Rattle.std.specs.List.{AllByRecursion};
-ghost use Rattle.tree.specs.Leaving.{clips_in, count_in, Within, SetAside, listed_in, kept, WithdrawnBelow, WithdrawnRoot};
-ghost use Rattle.tree.specs.Nodes.{Sound, Written, times, inside, node, spot, clip_in};
+ghost use Rattle.tree.specs.Leaving.{RoomFor, Within, SetAside, listed_in, kept, WithdrawnBelow, WithdrawnRoot};
+ghost use Rattle.tree.specs.Nodes.{Sound, SoundIn, Written, times, inside, node, spot, clip_in};
 
-use crate::aside::lay_aside;
-use crate::division::group_of;
-use crate::lookup::{child_of, holder_of};
-use crate::node::{Node, NodeEntry, clip_in, place_in};
-use crate::writing::{rebox, write_node};
+use crate::free::FreePlaces;
+use crate::node::NodeEntry;
+use crate::nodes::{Nodes, Subtree};
+use crate::padded::padded;
+use crate::worklist::Worklist;
 
-// Moves the tree of an entry out: its clips to the worklist, the places of its nodes to the stack.
-pub(crate) fn set_aside(
-    nodes: &[Node],
-    height: usize,
-    e: NodeEntry,
-    words: &mut [u64],
-    n: usize,
-    free: &mut [usize],
-    top: usize,
-) -> (usize, usize)
-    requires within { Within nodes.now height e }
-    requires words { 2 * (n + length (clips_in nodes.now height e)) ≤ length words.old }
-    requires room { count_in nodes.now height e ≤ top }
-    requires stack { top ≤ length free.old }
-    ensures { SetAside nodes.now height e words.old words.new n result.0 free.old free.new top result.1 }
-{
-    if height == 0 {
-        lay_aside(words, n, clip_in(e));
-        return (n + 1, top);
-    }
-    let at = place_in(e);
-    let node = nodes[at];
-    let es = &node.entries[0..node.len];
-    free[top - 1] = at;
-    let mut many = n;
-    let mut high = top - 1;
-    for k in 0..es.len() {
-        let (a, b) = set_aside(nodes, height - 1, es[k], words, many, free, high);
-        many = a;
-        high = b;
-    }
-    (many, high)
-}
-
-// Whether an entry's clip has another number.
-pub(crate) fn keeps(e: NodeEntry, number: u32) -> bool
-    ensures { result ≡ not ((clip_in e).number == number) }
-{
-    let c = clip_in(e);
-    c.number != number
-}
-
-// The entries of a leaf but those of that number.
+// The entries of a leaf but those of that number, and how many they are: in an array of fixed size, since nothing here takes memory.
 pub(crate) fn other_clips(entries: &[NodeEntry], number: u32) -> ([NodeEntry; 8], usize)
     requires { length entries.now ≤ 8 }
     ensures { (take result.1 result.0 ≡ kept number entries.now) × (result.1 ≤ 8) }
 {
     let mut out = [NodeEntry::Free; 8];
     let mut n = 0;
-    for i in 0..entries.len() {
-        if keeps(entries[i], number) {
-            out[n] = entries[i];
+    for entry in entries {
+        if entry.clip().number != number {
+            out[n] = *entry;
             n += 1;
         }
     }
     (out, n)
 }
 
-// Makes a leaf anew without the clips of that number.
-pub(crate) fn remove_clip(nodes: &mut [Node], dims: usize, at: usize, number: u32)
-    requires axes { dims ≤ 10 }
-    requires few { (node nodes.old at).len ≤ 8 }
-    requires sound { AllByRecursion (Sound nodes.old 0) (inside (node nodes.old at)) }
-    requires within { at < length nodes.old }
-    ensures { Written dims nodes.old nodes.new 0 at (kept number (inside (node nodes.old at))) }
-{
-    let n = nodes[at];
-    let (stay, m) = other_clips(&n.entries[0..n.len], number);
-    write_node(nodes, dims, 0, at, &stay[0..m]);
-}
+impl Nodes {
+    // Moves the tree of an entry out: its clips to the worklist, the places of its nodes to the free ones.
+    pub(crate) fn set_aside(
+        &self,
+        height: usize,
+        e: NodeEntry,
+        worklist: &mut Worklist,
+        free: &mut FreePlaces,
+    )
+        requires within { Within self.now.places.items height e }
+        requires room { RoomFor self.now.places.items height e (length worklist.old.words.now) worklist.old.clips free.old.used }
+        ensures { SetAside self.now.places.items height e worklist.old.words.now worklist.new.words.now worklist.old.clips worklist.new.clips free.old.places.items free.new.places.items free.old.used free.new.used }
+    {
+        if height == 0 {
+            worklist.lay(e.clip());
+            return;
+        }
+        let at = e.place();
+        free.put_back(at);
+        for entry in self.places[at].entries() {
+            self.set_aside(height - 1, *entry, worklist, free);
+        }
+    }
 
-// Makes the node `at` anew without its entry at p.
-pub(crate) fn remove_entry(nodes: &mut [Node], dims: usize, height: usize, at: usize, p: usize)
-    requires axes { dims ≤ 10 }
-    requires few { (node nodes.old at).len ≤ 8 }
-    requires place { p < length (inside (node nodes.old at)) }
-    requires sound { AllByRecursion (Sound nodes.old height) (take p (inside (node nodes.old at)) ++ drop (suc p) (inside (node nodes.old at))) }
-    requires within { at < length nodes.old }
-    ensures { Written dims nodes.old nodes.new height at (take p (inside (node nodes.old at)) ++ drop (suc p) (inside (node nodes.old at))) }
-{
-    let n = nodes[at];
-    let (stay, m) = group_of(1 << p, false, &n.entries[0..n.len]);
-    write_node(nodes, dims, height, at, &stay[0..m]);
-}
+    // Makes a leaf anew without the clips of a number.
+    pub(crate) fn remove_clip(&mut self, place: usize, number: u32)
+        requires { SoundIn self.old.places.items 0 place }
+        ensures written { Written self.old.dims self.old.places.items self.new.places.items 0 place (kept number (inside (node self.old.places.items place))) }
+        ensures dims { self.new.dims ≡ self.old.dims }
+    {
+        let (stay, m) = other_clips(self.places[place].entries(), number);
+        self.write(Subtree { place, height: 0 }, &stay[..m]);
+    }
 
-// worklist, behind the n that it has, and the places of its nodes to the stack of free places, which grows down and begins at `top`. Says where they end after.
-pub(crate) fn withdraw_below(
-    nodes: &mut [Node],
-    dims: usize,
-    height: usize,
-    at: usize,
-    number: u32,
-    words: &mut [u64],
-    n: usize,
-    free: &mut [usize],
-    top: usize,
-) -> (usize, usize)
-    requires axes { dims ≤ 10 }
-    requires sound { Sound nodes.old (suc height) (spot at) }
-    requires listed { listed_in dims nodes.old (suc height) number (spot at) ≡ true }
-    requires apart { (k : ℕ) → times nodes.old (suc height) (spot at) k ≤ 1 }
-    requires words { 2 * (n + length (clips_in nodes.old (suc height) (spot at))) ≤ length words.old }
-    requires room { count_in nodes.old (suc height) (spot at) ≤ top }
-    requires stack { top ≤ length free.old }
-    ensures { WithdrawnBelow dims nodes.old nodes.new height at number words.old words.new n result.0 free.old free.new top result.1 }
-{
-    if height == 0 {
-        remove_clip(nodes, dims, at, number);
-        return (n, top);
+    // Makes a node anew without its entry at p.
+    pub(crate) fn remove_entry(&mut self, at: Subtree, p: usize)
+        requires place { p < length (inside (node self.old.places.items at.place)) }
+        requires sound { AllByRecursion (Sound self.old.places.items at.height) (take p (inside (node self.old.places.items at.place)) ++ drop (suc p) (inside (node self.old.places.items at.place))) }
+        requires within { at.place < length self.old.places.items }
+        ensures written { Written self.old.dims self.old.places.items self.new.places.items at.height at.place (take p (inside (node self.old.places.items at.place)) ++ drop (suc p) (inside (node self.old.places.items at.place))) }
+        ensures dims { self.new.dims ≡ self.old.dims }
+    {
+        let node = self.places[at.place];
+        let before = node.entries();
+        // It is put behind the others, and cut off.
+        let mut entries: [NodeEntry; 8] = padded(before, NodeEntry::Free);
+        entries[p..before.len()].rotate_left(1);
+        self.write(at, &entries[..before.len() - 1]);
     }
-    let p = holder_of(nodes, height, at, number);
-    let child = child_of(nodes, at, p);
-    let (m, u) = withdraw_below(nodes, dims, height - 1, child, number, words, n, free, top);
-    let c = nodes[child];
-    if c.len >= 3 {
-        rebox(nodes, dims, height, at);
-        return (m, u);
-    }
-    let (a, b) = set_aside(nodes, height, NodeEntry::Place(child), words, m, free, u);
-    remove_entry(nodes, dims, height, at, p);
-    (a, b)
-}
 
-// Says the root and the height after, and where the worklist and the stack end.
-pub(crate) fn withdraw_root(
-    nodes: &mut [Node],
-    dims: usize,
-    height: usize,
-    root: usize,
-    number: u32,
-    words: &mut [u64],
-    n: usize,
-    free: &mut [usize],
-    top: usize,
-) -> (usize, usize, usize, usize)
-    requires axes { dims ≤ 10 }
-    requires sound { Sound nodes.old (suc height) (spot root) }
-    requires two { (height ≢ 0) → 2 ≤ length (inside (node nodes.old root)) }
-    requires listed { listed_in dims nodes.old (suc height) number (spot root) ≡ true }
-    requires apart { (k : ℕ) → times nodes.old (suc height) (spot root) k ≤ 1 }
-    requires words { 2 * (n + length (clips_in nodes.old (suc height) (spot root))) ≤ length words.old }
-    requires room { count_in nodes.old (suc height) (spot root) ≤ top }
-    requires stack { top ≤ length free.old }
-    ensures { WithdrawnRoot dims nodes.old nodes.new height root number words.old words.new n result.2 free.old free.new top result.3 result.1 result.0 }
-{
-    let (m, u) = withdraw_below(nodes, dims, height, root, number, words, n, free, top);
-    let r = nodes[root];
-    if height == 0 {
-        return (root, height, m, u);
+    // Withdraws a number that is listed below a node. A node below that is left with less than three entries is taken out, and its tree set aside.
+    pub(crate) fn withdraw_below(
+        &mut self,
+        at: Subtree,
+        number: u32,
+        worklist: &mut Worklist,
+        free: &mut FreePlaces,
+    )
+        requires sound { Sound self.old.places.items (suc at.height) (spot at.place) }
+        requires listed { listed_in self.old.dims self.old.places.items (suc at.height) number (spot at.place) ≡ true }
+        requires apart { (k : ℕ) → times self.old.places.items (suc at.height) (spot at.place) k ≤ 1 }
+        requires room { RoomFor self.old.places.items (suc at.height) (spot at.place) (length worklist.old.words.now) worklist.old.clips free.old.used }
+        ensures withdrawn { WithdrawnBelow self.old.dims self.old.places.items self.new.places.items at.height at.place number worklist.old.words.now worklist.new.words.now worklist.old.clips worklist.new.clips free.old.places.items free.new.places.items free.old.used free.new.used }
+        ensures dims { self.new.dims ≡ self.old.dims }
+    {
+        if at.height == 0 {
+            self.remove_clip(at.place, number);
+            return;
+        }
+        let p = self.holder_of(at, number);
+        let child = Subtree {
+            place: self.child_of(at.place, p),
+            height: at.height - 1,
+        };
+        self.withdraw_below(child, number, worklist, free);
+        if self.places[child.place].len >= 3 {
+            self.rebox(at);
+            return;
+        }
+        self.set_aside(at.height, NodeEntry::Place(child.place), worklist, free);
+        self.remove_entry(at, p);
     }
-    if r.len != 1 {
-        return (root, height, m, u);
+
+    // The same at a root, which gives way where it is left with one entry. Says the root after.
+    pub(crate) fn withdraw_root(
+        &mut self,
+        root: Subtree,
+        number: u32,
+        worklist: &mut Worklist,
+        free: &mut FreePlaces,
+    ) -> Subtree
+        requires sound { Sound self.old.places.items (suc root.height) (spot root.place) }
+        requires two { (root.height ≢ 0) → 2 ≤ length (inside (node self.old.places.items root.place)) }
+        requires listed { listed_in self.old.dims self.old.places.items (suc root.height) number (spot root.place) ≡ true }
+        requires apart { (k : ℕ) → times self.old.places.items (suc root.height) (spot root.place) k ≤ 1 }
+        requires room { RoomFor self.old.places.items (suc root.height) (spot root.place) (length worklist.old.words.now) worklist.old.clips free.old.used }
+        ensures withdrawn { WithdrawnRoot self.old.dims self.old.places.items self.new.places.items root.height root.place number worklist.old.words.now worklist.new.words.now worklist.old.clips worklist.new.clips free.old.places.items free.new.places.items free.old.used free.new.used result.height result.place }
+        ensures dims { self.new.dims ≡ self.old.dims }
+    {
+        self.withdraw_below(root, number, worklist, free);
+        if root.height == 0 || self.places[root.place].len != 1 {
+            return root;
+        }
+        free.put_back(root.place);
+        Subtree {
+            place: self.child_of(root.place, 0),
+            height: root.height - 1,
+        }
     }
-    let j = child_of(nodes, root, 0);
-    free[u - 1] = root;
-    (j, height - 1, m, u - 1)
 }

@@ -2,153 +2,106 @@
 ghost use Rattle.std.specs.Prelude.{◌≡◌, ℕ, ◌+◌, ◌<◌, ◌≤◌, [], ◌∷◌, ◌++◌, map, length, take};
 ghost use Rattle.rules.specs.Tree.{sets_of};
 ghost use Rattle.std.specs.List.{AllByRecursion};
-ghost use Rattle.tree.specs.Nodes.{Sound, entry_of, boxes_of, Written, Fitted, one, total, times, inside, node};
+ghost use Rattle.tree.specs.Nodes.{Sound, SoundIn, entry_of, boxes_of, Written, Fitted, one, total, times, inside, node};
 
 use crate::division::{best_division, group_of};
 use crate::fixed::{Sets, box_around, point_of};
-use crate::node::{Node, NodeEntry, clip_in, place_in};
+use crate::node::{Node, NodeEntry};
+use crate::nodes::{Nodes, Subtree};
+use crate::padded::padded;
 
-// The box of an entry: the point of a clip at height 0, and above that a node's own.
-pub(crate) fn sets_of(nodes: &[Node], height: usize, dims: usize, e: NodeEntry) -> Sets
-    requires { Sound nodes.now height e }
-    ensures { take dims result ≡ sets_of height (entry_of dims nodes.now height e) }
-{
-    if height == 0 {
-        let c = clip_in(e);
-        point_of(c.letters)
-    } else {
-        let n = nodes[place_in(e)];
-        n.sets
+impl Nodes {
+    // The box of an entry: the point of a clip at height 0, and above that a node's own.
+    pub(crate) fn sets_of(&self, height: usize, e: NodeEntry) -> Sets
+        requires { Sound self.now.places.items height e }
+        ensures { take self.now.dims result ≡ sets_of height (entry_of self.now.dims self.now.places.items height e) }
+    {
+        if height == 0 {
+            point_of(e.clip().letters)
+        } else {
+            self.places[e.place()].sets
+        }
     }
-}
 
-// The boxes of some entries of one height, in their order.
-pub(crate) fn boxes_of(
-    nodes: &[Node],
-    dims: usize,
-    height: usize,
-    entries: &[NodeEntry],
-) -> [Sets; 9]
-    requires few { length entries.now ≤ 9 }
-    requires sound { AllByRecursion (Sound nodes.now height) entries.now }
-    ensures long { AllByRecursion (λ b. length b ≡ 10) result }
-    ensures boxes { map (take dims) (take (length entries.now) result) ≡ boxes_of dims nodes.now height entries.now }
-{
-    let mut r = [[0; 10]; 9];
-    for i in 0..entries.len() {
-        let b = sets_of(nodes, height, dims, entries[i]);
-        r[i] = b;
+    // The boxes of some entries of one height, in their order.
+    pub(crate) fn boxes_of(&self, height: usize, entries: &[NodeEntry]) -> [Sets; 9]
+        requires few { length entries.now ≤ 9 }
+        requires sound { AllByRecursion (Sound self.now.places.items height) entries.now }
+        ensures long { AllByRecursion (λ b. length b ≡ 10) result }
+        ensures boxes { map (take self.now.dims) (take (length entries.now) result) ≡ boxes_of self.now.dims self.now.places.items height entries.now }
+    {
+        // By index: after a zip with iter_mut the proof has not the boxes that were written.
+        let mut boxes = [[0; 10]; 9];
+        for (i, e) in entries.iter().enumerate() {
+            boxes[i] = self.sets_of(height, *e);
+        }
+        boxes
     }
-    r
-}
 
-// The same entries, in an array of eight.
-pub(crate) fn eight_of(entries: &[NodeEntry]) -> [NodeEntry; 8]
-    requires { length entries.now ≤ 8 }
-    ensures { take (length entries.now) result ≡ entries.now }
-{
-    let mut r = [NodeEntry::Free; 8];
-    for i in 0..entries.len() {
-        r[i] = entries[i];
+    // Makes a node of some entries.
+    pub(crate) fn write(&mut self, at: Subtree, entries: &[NodeEntry])
+        requires few { length entries.now ≤ 8 }
+        requires sound { AllByRecursion (Sound self.old.places.items at.height) entries.now }
+        requires within { at.place < length self.old.places.items }
+        ensures written { Written self.old.dims self.old.places.items self.new.places.items at.height at.place entries.now }
+        ensures dims { self.new.dims ≡ self.old.dims }
+    {
+        let boxes = self.boxes_of(at.height, entries);
+        let sets = box_around(&boxes[..entries.len()]);
+        self.places[at.place] = Node::new(sets, entries);
     }
-    r
-}
 
-// Makes the node `at` of some entries.
-pub(crate) fn write_node(
-    nodes: &mut [Node],
-    dims: usize,
-    height: usize,
-    at: usize,
-    entries: &[NodeEntry],
-)
-    requires axes { dims ≤ 10 }
-    requires few { length entries.now ≤ 8 }
-    requires sound { AllByRecursion (Sound nodes.old height) entries.now }
-    requires within { at < length nodes.old }
-    ensures { Written dims nodes.old nodes.new height at entries.now }
-{
-    let boxes = boxes_of(nodes, dims, height, entries);
-    let len = entries.len();
-    let sets = box_around(&boxes[0..len]);
-    let entries = eight_of(entries);
-    nodes[at] = Node { sets, len, entries };
-}
-
-// Settles some entries in the node `at`: where they are nine, they are divided, and one group goes to the node `spare`.
-pub(crate) fn fit_entries(
-    nodes: &mut [Node],
-    dims: usize,
-    height: usize,
-    at: usize,
-    spare: usize,
-    entries: &[NodeEntry],
-) -> bool
-    requires axes { dims ≤ 10 }
-    requires some { 0 < length entries.now }
-    requires few { length entries.now ≤ 9 }
-    requires sound { AllByRecursion (Sound nodes.old height) entries.now }
-    requires within { at < length nodes.old }
-    requires room { spare < length nodes.old }
-    requires apart { (k : ℕ) → one at k + one spare k + total (λ e. times nodes.old height e k) entries.now ≤ 1 }
-    ensures { Fitted dims nodes.old nodes.new height at spare entries.now result }
-{
-    if entries.len() <= 8 {
-        write_node(nodes, dims, height, at, entries);
-        return false;
+    // Settles some entries in a node. Where they are nine, they are divided, and one group goes to the node `spare`: says whether it was so.
+    pub(crate) fn settle(&mut self, at: Subtree, spare: usize, entries: &[NodeEntry]) -> bool
+        requires some { 0 < length entries.now }
+        requires few { length entries.now ≤ 9 }
+        requires sound { AllByRecursion (Sound self.old.places.items at.height) entries.now }
+        requires within { at.place < length self.old.places.items }
+        requires room { spare < length self.old.places.items }
+        requires apart { (k : ℕ) → one at.place k + one spare k + total (λ e. times self.old.places.items at.height e k) entries.now ≤ 1 }
+        ensures fitted { Fitted self.old.dims self.old.places.items self.new.places.items at.height at.place spare entries.now result }
+        ensures dims { self.new.dims ≡ self.old.dims }
+    {
+        if entries.len() <= 8 {
+            self.write(at, entries);
+            return false;
+        }
+        let boxes = self.boxes_of(at.height, entries);
+        let code = best_division(&boxes, self.dims);
+        let (stay, n) = group_of(code, false, entries);
+        let (leave, m) = group_of(code, true, entries);
+        self.write(at, &stay[..n]);
+        let other = Subtree {
+            place: spare,
+            height: at.height,
+        };
+        self.write(other, &leave[..m]);
+        true
     }
-    let boxes = boxes_of(nodes, dims, height, entries);
-    let code = best_division(&boxes, dims);
-    let (stay, n) = group_of(code, false, entries);
-    let (leave, m) = group_of(code, true, entries);
-    write_node(nodes, dims, height, at, &stay[0..n]);
-    write_node(nodes, dims, height, spare, &leave[0..m]);
-    true
-}
 
-// Some entries and one more.
-pub(crate) fn with_entry(entries: &[NodeEntry], e: NodeEntry) -> [NodeEntry; 9]
-    requires { length entries.now ≤ 8 }
-    ensures { take (length entries.now + 1) result ≡ entries.now ++ e ∷ [] }
-{
-    let mut r = [NodeEntry::Free; 9];
-    for i in 0..entries.len() {
-        r[i] = entries[i];
+    // Adds an entry to a node, which is divided where it has eight: says whether it was so.
+    pub(crate) fn add(&mut self, at: Subtree, spare: usize, entry: NodeEntry) -> bool
+        requires sound { AllByRecursion (Sound self.old.places.items at.height) (inside (node self.old.places.items at.place) ++ entry ∷ []) }
+        requires within { at.place < length self.old.places.items }
+        requires room { spare < length self.old.places.items }
+        requires apart { (k : ℕ) → one at.place k + one spare k + total (λ e. times self.old.places.items at.height e k) (inside (node self.old.places.items at.place) ++ entry ∷ []) ≤ 1 }
+        ensures fitted { Fitted self.old.dims self.old.places.items self.new.places.items at.height at.place spare (inside (node self.old.places.items at.place) ++ entry ∷ []) result }
+        ensures dims { self.new.dims ≡ self.old.dims }
+    {
+        let node = self.places[at.place];
+        let before = node.entries();
+        // The entry stands behind the others, and again in what is cut off.
+        let entries: [NodeEntry; 9] = padded(before, entry);
+        self.settle(at, spare, &entries[..before.len() + 1])
     }
-    r[entries.len()] = e;
-    r
-}
 
-// Adds an entry to the node `at`, which is divided where it has eight.
-pub(crate) fn add_entry(
-    nodes: &mut [Node],
-    dims: usize,
-    height: usize,
-    at: usize,
-    spare: usize,
-    entry: NodeEntry,
-) -> bool
-    requires axes { dims ≤ 10 }
-    requires few { (node nodes.old at).len ≤ 8 }
-    requires sound { AllByRecursion (Sound nodes.old height) (inside (node nodes.old at) ++ entry ∷ []) }
-    requires within { at < length nodes.old }
-    requires room { spare < length nodes.old }
-    requires apart { (k : ℕ) → one at k + one spare k + total (λ e. times nodes.old height e k) (inside (node nodes.old at) ++ entry ∷ []) ≤ 1 }
-    ensures { Fitted dims nodes.old nodes.new height at spare (inside (node nodes.old at) ++ entry ∷ []) result }
-{
-    let n = nodes[at];
-    let entries = with_entry(&n.entries[0..n.len], entry);
-    fit_entries(nodes, dims, height, at, spare, &entries[0..n.len + 1])
-}
-
-// Makes the node `at` anew of its own entries.
-pub(crate) fn rebox(nodes: &mut [Node], dims: usize, height: usize, at: usize)
-    requires axes { dims ≤ 10 }
-    requires few { (node nodes.old at).len ≤ 8 }
-    requires sound { AllByRecursion (Sound nodes.old height) (inside (node nodes.old at)) }
-    requires within { at < length nodes.old }
-    ensures { Written dims nodes.old nodes.new height at (inside (node nodes.old at)) }
-{
-    let n = nodes[at];
-    write_node(nodes, dims, height, at, &n.entries[0..n.len]);
+    // Makes a node anew of its own entries.
+    pub(crate) fn rebox(&mut self, at: Subtree)
+        requires { SoundIn self.old.places.items at.height at.place }
+        ensures written { Written self.old.dims self.old.places.items self.new.places.items at.height at.place (inside (node self.old.places.items at.place)) }
+        ensures dims { self.new.dims ≡ self.old.dims }
+    {
+        let node = self.places[at.place];
+        self.write(at, node.entries());
+    }
 }

@@ -13,8 +13,8 @@ overflow_add-self c = omega (arith, low c.args.self.now)
 
 pub copy_clips-requires : goal.copy_clips-requires
 copy_clips-requires c =
-    let p = ask_clips c.args.self.now c.deref.result.now c.deref.ensures.value c.args.out.now c.if-out-self.false in
+    let p = ask_clips c.args.self.now c.args.out.now c.if-out-self.false in
     record { within = p.0; room = p.1 }
 
 pub returns : goal.returns
-returns c = clips_done c.args.self.now c.deref.result.now c.deref.ensures.value c.args.out.now c.copy_clips.new.out c.copy_clips.result c.if-out-self.false c.copy_clips.ensures
+returns c = clips_done c.args.self.now c.args.out.now c.copy_clips.new.out c.copy_clips.result c.if-out-self.false c.copy_clips.ensures

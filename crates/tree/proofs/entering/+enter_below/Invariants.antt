@@ -1,4 +1,0 @@
-use Rattle.tree.proofs.entering.+enter_below.Given as goal
-
-abbrev pub decreases-enter_below : goal.decreases-enter_below
-decreases-enter_below l = l.height
