@@ -26,4 +26,5 @@ pub mod Fitting
 pub mod Starts
 pub mod Changes
 pub mod Wholes
+pub mod Sorts
 pub mod Listings

@@ -1,5 +1,5 @@
 -- The clips of a tree written to a list.
-use Rattle.std.specs.Prelude.{◌≡◌, ℕ, ◌+◌, ◌*◌, ◌/◌, ◌%◌, ◌^◌, List, [], ◌∷◌, ◌++◌, length, take, drop, Option, MatchOption, nat_le, slice_index_or}
+use Rattle.std.specs.Prelude.{◌≡◌, ℕ, ◌+◌, List, ◌++◌, length, take, drop, Option, MatchOption, nat_le}
 use Rattle.space.specs.Boxes.{given}
 use Rattle.space.specs.Row.{Row, stored_rows}
 use Rattle.space.specs.declared.clip.StoredClip.{StoredClip}
@@ -9,7 +9,6 @@ use Rattle.rules.specs.Tree.{rows_in}
 use Rattle.tree.specs.declared.index.Index.{Index}
 use Rattle.tree.specs.declared.node.NodeEntry.{NodeEntry}
 use Rattle.tree.specs.declared.node.Node.{Node}
-use Rattle.tree.specs.Nodes.{no_clip}
 use Rattle.tree.specs.Leaving.{clips_in}
 use Rattle.tree.specs.Seen.{plan_of, tree_in}
 
@@ -31,15 +30,6 @@ pub record Listed (x : Index) (rows : List Row) (A B : List StoredClip) (r : Opt
   pub front : MatchOption r (B ≡ A) (Front (length (plan_of x)) rows A B)
 
 -- ---- in rising number
--- a key for each clip, of which the first stands at i: its number, and in the lower 32 bits where it stands
-unfoldable pub keys_from : ℕ → List StoredClip → List ℕ
-keys_from i [] = []
-keys_from i (c ∷ cs) = (c.number * 2 ^ 32 + i) ∷ keys_from (i + 1) cs
-
--- the clip of a key
-unfoldable pub clip_of : List StoredClip → ℕ → StoredClip
-clip_of clips key = record { number = key / 2 ^ 32; letters = (slice_index_or clips (key % 2 ^ 32) no_clip).letters }
-
 -- the clips A have become B, in rising number, if no number stands twice
 pub record Ordered (A B : List StoredClip) : Type 0 where
   pub long : length B ≡ length A
