@@ -22,7 +22,7 @@ use Rattle.rules.proofs.Rises.{rises_from_rank}
 use Rattle.rules.proofs.Risings.{rising_only}
 use Rattle.tree.specs.declared.index.Index.{Index}
 use Rattle.tree.specs.Nodes.{no_clip}
-use Rattle.tree.specs.Listing.{Listed, Ordered}
+use Rattle.tree.specs.Listing.{Listed}
 use Rattle.tree.specs.Seen.{plan_of, tree_in}
 use Rattle.tree.proofs.Wholes.{whole_of}
 
@@ -50,47 +50,45 @@ module _ {X : Type 0} where
   same_moved xs ys p = IsPermutation-keeps xs (Same xs) (same_refl xs) (λ l i j h k s. then s (same_swapped l i j h k)) ys p
 
 -- ---- in rising number
--- clips sorted by their numbers are in rising number
-pub ordered : (A B : List StoredClip) → IsPermutation A B → IsNonDecreasingBy (λ c. c.number) B → Ordered A B
-ordered A B moved up = record {
-  long = length_permutation A B moved;
-  rows = λ d once.
-      let same = same_map (stored_row d) (same_moved A B moved) in
-      rising_only (stored_rows d A) (stored_rows d B) once same
-      (rises_from_rank lower number lower_tie (stored_rows d B) (lower_in_rank d B up) (apart_same number same (apart_from_at number (stored_rows d A) once)));
-}
-  where
-    lower_tie : (x y : Row) → lower x y ≡ false → lower y x ≡ false → x.number ≡ y.number
-    lower_tie x y h k = grind (arith, nat_tests)
+lower_tie : (x y : Row) → lower x y ≡ false → lower y x ≡ false → x.number ≡ y.number
+lower_tie x y h k = grind (arith, nat_tests)
 
-    lower_in_rank : (d : ℕ) (C : List StoredClip) → IsNonDecreasingBy (λ c. c.number) C → InRank lower (stored_rows d C)
-    lower_in_rank d [] up = tt
-    lower_in_rank d (c ∷ cs) up = (
-      All-map (λ r. lower r (stored_row d c) ≡ false) (stored_row d) cs
-      (All-from_get_or (λ y. ltb y.number c.number ≡ false) cs no_clip (λ i l. le-ltb (get_or cs i no_clip).number c.number (up 0 (suc i) no_clip (omega arith) (omega arith)))),
-      lower_in_rank d cs (λ i j e h l. up (suc i) (suc j) e (omega arith) (omega arith)),
-    )
+lower_in_rank : (d : ℕ) (C : List StoredClip) → IsNonDecreasingBy (λ c. c.number) C → InRank lower (stored_rows d C)
+lower_in_rank d [] up = tt
+lower_in_rank d (c ∷ cs) up = (
+  All-map (λ r. lower r (stored_row d c) ≡ false) (stored_row d) cs
+  (All-from_get_or (λ y. ltb y.number c.number ≡ false) cs no_clip (λ i l. le-ltb (get_or cs i no_clip).number c.number (up 0 (suc i) no_clip (omega arith) (omega arith)))),
+  lower_in_rank d cs (λ i j e h l. up (suc i) (suc j) e (omega arith) (omega arith)),
+)
 
--- ---- a list put in order
+-- clips sorted by their numbers are in rising number, if no number stands twice
+sorted_rising : (d : ℕ) (A B : List StoredClip) → IsPermutation A B → IsNonDecreasingBy (λ c. c.number) B → Once (stored_rows d A) → stored_rows d B ≡ rising (stored_rows d A)
+sorted_rising d A B moved up once =
+    let same = same_map (stored_row d) (same_moved A B moved) in
+    rising_only (stored_rows d A) (stored_rows d B) once same
+    (rises_from_rank lower number lower_tie (stored_rows d B) (lower_in_rank d B up) (apart_same number same (apart_from_at number (stored_rows d A) once)))
+
+-- ---- the front of a list sorted
 given_some : (b : Bool) (k n : ℕ) → Some n ≡ given b k → (b ≡ true) × (n ≡ k)
 given_some true k n e = (refl, cc)
 given_some false k n e = let z : ◌≡◌ {A = ℕ} 0 1 = cc in absurd (omega arith)
 
 -- there is room for as many clips as were listed
-listed_count : (x : Index) (rows : List Row) (A B : List StoredClip) (n : ℕ) → Listed x rows A B (Some n) → n ≤ length A
-listed_count x rows A B n p =
+listed_room : (x : Index) (rows : List Row) (A B : List StoredClip) (n : ℕ) → Listed x rows A B (Some n) → n ≤ length A
+listed_room x rows A B n p =
     let k = length (rows_in (tree_in x)) in
     let g = given_some (leb k (length A)) k n p.count in
     omega (arith, g.1, leb-true k (length A) g.0)
 
-pub listed_rising : (x : Index) (A B S : List StoredClip) (n : ℕ) → length B ≡ length A → Listed x (rows_in (tree_in x)) A B (Some n) → Ordered (take n B) S → Listed x (rising (rows_in (tree_in x))) A (S ++ drop n B) (Some n)
-listed_rising x A B S n long p o =
+pub listed_rising : (x : Index) (A B S : List StoredClip) (n : ℕ) → length B ≡ length A → Listed x (rows_in (tree_in x)) A B (Some n)
+    → IsPermutation (take n B) S → IsNonDecreasingBy (λ c. c.number) S → Listed x (rising (rows_in (tree_in x))) A (S ++ drop n B) (Some n)
+listed_rising x A B S n long p moved up =
     let d = length (plan_of x) in
-    let s : length S ≡ n = o.long ∙ length-take-le n B (omega (arith, listed_count x (rows_in (tree_in x)) A B n p)) in
+    let s : length S ≡ n = length_permutation (take n B) S moved ∙ length-take-le n B (omega (arith, listed_room x (rows_in (tree_in x)) A B n p)) in
     record {
       count = p.count;
       front = record {
-        clips = ap (stored_rows d) (take_at S (drop n B) n s) ∙ o.rows d (subst Once (sym p.front.clips) (whole_of x).once) ∙ ap rising p.front.clips;
+        clips = ap (stored_rows d) (take_at S (drop n B) n s) ∙ sorted_rising d (take n B) S moved up (subst Once (sym p.front.clips) (whole_of x).once) ∙ ap rising p.front.clips;
         rest = drop_at S (drop n B) n s ∙ p.front.rest;
       };
     }

@@ -3,8 +3,6 @@ use Rattle.std.specs.Prelude.{◌≡◌, ℕ, ◌+◌, List, ◌++◌, length, t
 use Rattle.space.specs.Boxes.{given}
 use Rattle.space.specs.Row.{Row, stored_rows}
 use Rattle.space.specs.declared.clip.StoredClip.{StoredClip}
-use Rattle.rules.specs.Finds.{Once}
-use Rattle.rules.specs.Rows.{rising}
 use Rattle.rules.specs.Tree.{rows_in}
 use Rattle.tree.specs.declared.index.Index.{Index}
 use Rattle.tree.specs.declared.node.NodeEntry.{NodeEntry}
@@ -28,9 +26,3 @@ pub record Front (d : ℕ) (rows : List Row) (A B : List StoredClip) (n : ℕ) :
 pub record Listed (x : Index) (rows : List Row) (A B : List StoredClip) (r : Option ℕ) : Type 0 where
   pub count : r ≡ given (nat_le (length (rows_in (tree_in x))) (length A)) (length (rows_in (tree_in x)))
   pub front : MatchOption r (B ≡ A) (Front (length (plan_of x)) rows A B)
-
--- ---- in rising number
--- the clips A have become B, in rising number, if no number stands twice
-pub record Ordered (A B : List StoredClip) : Type 0 where
-  pub long : length B ≡ length A
-  pub rows : (d : ℕ) → Once (stored_rows d A) → stored_rows d B ≡ rising (stored_rows d A)

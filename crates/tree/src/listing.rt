@@ -3,7 +3,7 @@ ghost use Rattle.std.specs.Prelude.{◌≡◌, ◌+◌, ◌≤◌, length};
 ghost use Rattle.rules.specs.Rows.{rising};
 ghost use Rattle.rules.specs.Tree.{boxes_in, rows_in};
 ghost use Rattle.tree.specs.Leaving.{clips_in, Within};
-ghost use Rattle.tree.specs.Listing.{Copied, Listed, Ordered};
+ghost use Rattle.tree.specs.Listing.{Copied, Listed};
 ghost use Rattle.tree.specs.Seen.{tree_in};
 
 use crate::index::Index;
@@ -34,13 +34,6 @@ pub(crate) fn copy_clips(
         many = copy_clips(nodes, height - 1, es[k], out, many);
     }
     many
-}
-
-// Puts clips in rising number.
-fn order_clips(clips: &mut [StoredClip])
-    ensures { Ordered clips.old clips.new }
-{
-    clips.sort_unstable_by_key(|c| c.number);
 }
 
 impl Index {
@@ -86,7 +79,7 @@ impl Index {
         ensures { Listed self.now (rising (rows_in (tree_in self.now))) out.old out.new result }
     {
         let n = self.clips(out)?;
-        order_clips(&mut out[0..n]);
+        out[0..n].sort_unstable_by_key(|c| c.number);
         Some(n)
     }
 }
