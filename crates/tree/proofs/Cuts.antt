@@ -1,8 +1,8 @@
 -- Boxes in ten sets, of which the first d count.
-use Rattle.std.proofs.Common.{◌≡◌, ℕ, zero, suc, ◌+◌, ◌^◌, ◌<◌, ◌≤◌, true, ◌&&◌, eqb, leb, List, [], ◌∷◌, ◌++◌, map, length, get_or, take, drop, replicate, IfSome, Some, None, Option, unwrap_or, sym, refl, ap, ◌∙◌, arith, lit<}
+use Rattle.std.proofs.Common.{◌≡◌, ℕ, zero, suc, ◌^◌, ◌≤◌, true, ◌&&◌, eqb, leb, List, [], ◌∷◌, ◌++◌, map, length, take, drop, replicate, IfSome, Some, None, Option, unwrap_or, fold, refl, ap, ◌∙◌, arith, lit<}
 use native.Mathlib.Nat.{pow-le-pow_right}
 use lib.Bits.{bit_or}
-use Rattle.std.proofs.lemmas.List.{drop_more, drop_all, take_all, take-replicate, append-nil, take-map}
+use Rattle.std.proofs.lemmas.List.{drop_all, take_all, take-replicate, append-nil, take-map}
 use Rattle.std.proofs.lemmas.Bool.{le-leb, eq-eqb}
 use Rattle.space.specs.Boxes.{area, common, join, joined, point, only, around, area_of, common_of, given, filled}
 use Rattle.space.proofs.Arounds.{length_point}
@@ -23,12 +23,10 @@ take_around d bs l = take_joined d (replicate 10 0) bs ∙ ap (λ x. joined x (m
 pub take_point : (d : ℕ) (v : List ℕ) → take d (point v) ≡ point (take d v)
 take_point d v = take-map only d v
 
--- one more box of a smallest box that is made from the left
-pub joined_step : (r all : List ℕ) (bs : List (List ℕ)) (i : ℕ) → i < length bs → joined r (drop i bs) ≡ all → joined (join r (get_or bs i [])) (drop (i + 1) bs) ≡ all
-joined_step r all bs i l e = ap (joined r) (sym (drop_more bs i [] l)) ∙ e
-
-pub joined_end : (r all : List ℕ) (bs : List (List ℕ)) (i : ℕ) → length bs ≤ i → joined r (drop i bs) ≡ all → r ≡ all
-joined_end r all bs i l e = ap (joined r) (sym (drop_all i bs l)) ∙ e
+-- a smallest box is made from the left
+pub joined_folded : (r : List ℕ) (bs : List (List ℕ)) → fold join r bs ≡ joined r bs
+joined_folded r [] = refl
+joined_folded r (b ∷ bs) = joined_folded (join r b) bs
 
 -- the area of up to ten sets, where none stands for that of no sets
 dimensions_some : (n : ℕ) → suc n ≤ 10 → (leb 1 (suc n) && leb (suc n) 10) ≡ true

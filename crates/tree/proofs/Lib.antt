@@ -2,6 +2,7 @@ pub mod Lists
 pub mod Cuts
 pub mod Parts
 pub mod Choosing
+pub mod Least
 pub mod Frame
 pub mod Levels
 pub mod Writes

@@ -57,7 +57,7 @@ lower_in_rank : (d : ℕ) (C : List StoredClip) → IsNonDecreasingBy (λ c. c.n
 lower_in_rank d [] up = tt
 lower_in_rank d (c ∷ cs) up = (
   All-map (λ r. lower r (stored_row d c) ≡ false) (stored_row d) cs
-  (All-from_get_or (λ y. ltb y.number c.number ≡ false) cs no_clip (λ i l. le-ltb (get_or cs i no_clip).number c.number (up 0 (suc i) no_clip (omega arith) (omega arith)))),
+      (All-from_get_or (λ y. ltb y.number c.number ≡ false) cs no_clip (λ i l. le-ltb (get_or cs i no_clip).number c.number (up 0 (suc i) no_clip (omega arith) (omega arith)))),
   lower_in_rank d cs (λ i j e h l. up (suc i) (suc j) e (omega arith) (omega arith)),
 )
 

@@ -46,10 +46,5 @@ pub(crate) fn point_of(letters: [u8; 10]) -> Sets
 pub(crate) fn box_around(boxes: &[Sets]) -> Sets
     ensures { result ≡ around 10 boxes.now }
 {
-    let mut r = [0; 10];
-    for i in 0..boxes.len() {
-        let more = union_of(r, boxes[i]);
-        r = more;
-    }
-    r
+    boxes.iter().copied().fold([0; 10], union_of)
 }
