@@ -19,7 +19,6 @@ pub(crate) struct Growth {
 pub(crate) fn common_sum(b: Sets, boxes: &[Sets], dims: usize) -> u64
     requires axes { dims ≤ 10 }
     requires few { length boxes.now ≤ 8 }
-    requires long { AllByRecursion (λ b. length b ≡ 10) boxes.now }
     ensures { result ≡ commons (take dims b) (map (take dims) boxes.now) }
 {
     boxes
@@ -32,7 +31,6 @@ pub(crate) fn common_sum(b: Sets, boxes: &[Sets], dims: usize) -> u64
 pub(crate) fn growth_of(boxes: &[Sets], dims: usize, letters: [u8; 10], place: usize) -> Growth
     requires axes { dims ≤ 10 }
     requires few { length boxes.now ≤ 8 }
-    requires long { AllByRecursion (λ b. length b ≡ 10) boxes.now }
     requires within { place < length boxes.now }
     ensures score { growth (map (take dims) boxes.now) (take dims letters) place ≡ (result.common, result.area, result.before) }
     ensures place { result.place ≡ place }
@@ -50,7 +48,7 @@ pub(crate) fn growth_of(boxes: &[Sets], dims: usize, letters: [u8; 10], place: u
     }
 }
 
-// The place of the box that a vector is to go to.
+// The place of the box that a vector is to go to. There is a box, so the default is never needed.
 pub(crate) fn choose(boxes: &[Sets], dims: usize, letters: [u8; 10]) -> usize
     requires axes { dims ≤ 10 }
     requires some { 0 < length boxes.now }

@@ -6,6 +6,6 @@ pub returns : goal.returns
 returns c =
     let fits : c.args.clip.number < 2 ^ 32 = search rules in
     record {
-      aside = aside_is c.args.words.now c.args.n c.packed.result c.args.clip c.requires.room fits c.packed.ensures;
+      aside = rw c.from.ensures (aside_is c.args.words.now c.args.n c.packed.result c.args.clip c.requires.room fits c.packed.ensures);
       words = length-set _ _ _ ∙ length-set _ _ _;
     }
