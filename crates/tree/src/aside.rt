@@ -58,13 +58,6 @@ pub(crate) fn order_asides(words: &mut [u64], n: usize)
     sort_words(&mut words[0..n]);
 }
 
-// The word at a place; 0 past the end.
-fn word_at(words: &[u64], place: usize) -> u64
-    ensures { result ≡ slice_index words.now place }
-{
-    words.get(place).copied().unwrap_or(0)
-}
-
 // The clip of the key at k.
 pub(crate) fn keyed_at(words: &[u64], k: usize) -> StoredClip
     requires { 2 * k + 1 < length words.now }
@@ -72,9 +65,8 @@ pub(crate) fn keyed_at(words: &[u64], k: usize) -> StoredClip
 {
     let key = words[k];
     let place = words.len() / 2 + (key % NUMBERS) as usize;
-    let letters = unpacked(word_at(words, place));
     StoredClip {
         number: (key / NUMBERS) as u32,
-        letters,
+        letters: unpacked(words.get(place).copied().unwrap_or(0)),
     }
 }
