@@ -8,7 +8,7 @@ pub struct Clip {
 }
 
 // A clip in a place of fixed size: of the ten bytes as many are letters as its plan has dimensions.
-#[derive(Clone, Copy, PartialEq, Eq, Debug)]
+#[derive(Clone, Copy, PartialEq, Eq, Debug, Default)]
 pub struct StoredClip {
     pub number: u32,
     pub letters: [u8; 10],
