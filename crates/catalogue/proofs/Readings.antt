@@ -1,5 +1,5 @@
 -- What is saved and counted of an index.
-use Rattle.std.proofs.Common.{◌≡◌, ℕ, ◌-◌, ◌<◌, ◌≤◌, Bool, true, false, cond, not, ◌&&◌, eqb, ltb, leb, List, [], ◌∷◌, ◌++◌, map, length, take, drop, is_some, Some, None, Option, Result, unwrap_or, sym, refl, ap, ◌∙◌, subst, ap₂, subst₂, arith, MatchOption}
+use Rattle.std.proofs.Common.{◌≡◌, ℕ, ◌-◌, ◌<◌, ◌≤◌, Bool, true, false, cond, not, ◌&&◌, eqb, leb, List, [], ◌∷◌, ◌++◌, length, take, drop, is_some, Some, None, Option, unwrap_or, sym, refl, ap, ◌∙◌, subst, ap₂, subst₂, arith, MatchOption}
 use Rattle.std.specs.List.{AllByRecursion}
 use Rattle.std.proofs.lemmas.List.{length-map}
 use Rattle.std.proofs.ByRecursion.{All-weaker}
@@ -17,23 +17,19 @@ use Rattle.rules.specs.Tree.{empty, rows_in}
 use Rattle.rules.specs.Rows.{rising}
 use Rattle.rules.specs.File.{saved, file_rows, of_load}
 use Rattle.rules.specs.Register.{registered, grown}
-use Rattle.rules.specs.State.{save_told}
 use Rattle.rules.proofs.RoundTrip.{runs_save}
 use Rattle.rules.proofs.Runs.{runs_keep}
-use Rattle.rules.specs.Refusals.{Refusal, refused_at, when, of_save, of_count}
+use Rattle.rules.specs.Refusals.{refused_at, when, of_save, of_count}
 use Rattle.rules.proofs.Risings.{rising_same}
 use Rattle.file.specs.Writes.{written, file_length, written_length, output_after}
 use Rattle.file.proofs.Writings.{written_saves}
 use Rattle.tree.specs.declared.index.Index.{Index}
-use Rattle.tree.specs.Seen.{plan_of, tree_in, seen_index}
+use Rattle.tree.specs.Seen.{plan_of, tree_in}
 use Rattle.tree.proofs.Starts.{fit_open}
-use Rattle.refusals.specs.declared.refusal.Refusal.{Refusal as Held}
-use Rattle.refusals.specs.Refused.{refusal_of}
 use Rattle.ranked.specs.Same.{Same}
 use Rattle.catalogue.specs.declared.catalogue.Catalogue.{Catalogue}
-use Rattle.catalogue.specs.declared.catalogue.Catalogue.TheVariants.{Open}
 use Rattle.catalogue.specs.Seen.{seen_of, boxes_of, seen_tree}
-use Rattle.catalogue.specs.Reads.{saved_of, SavedAs, LoadsBack}
+use Rattle.catalogue.specs.Reads.{saved_of, LoadsBack}
 use Rattle.tree.specs.Listing.{Front, Listed}
 use Rattle.tree.proofs.Wholes.{whole_of, few}
 
@@ -139,7 +135,3 @@ loads_back c plan capacity calls m possible =
     let e : saved_of (seen_of c) ≡ saved plan (rows_in (grown plan capacity [] (empty (length plan)) calls)) = ap saved_of m.seen in
     let r = runs_save plan capacity calls (grown plan capacity [] (empty (length plan)) calls) (runs_keep plan capacity calls) possible (omega (arith, (fit_open plan capacity (boxes_of c) m.fit).most)) in
     (ap (of_load plan capacity []) e ∙ r.0, subst (λ f. Same (registered plan capacity [] calls) (file_rows plan f)) (sym e) r.1)
-
-pub open_saved : (c : Catalogue) (x : Index) (old new : List ℕ) (r : Result ℕ Held) → c ≡ Open x → refusal_of r ≡ of_save (length (saved (plan_of x) (rows_in (tree_in x)))) (length old) → SavedAs (seen_index x) old new r
-    → (refusal_of r ≡ save_told (seen_of c) (length old)) × SavedAs (seen_of c) old new r
-open_saved c x old new r is told bytes = subst (λ k. (refusal_of r ≡ save_told (seen_of k) (length old)) × SavedAs (seen_of k) old new r) (sym is) (told, bytes)

@@ -55,9 +55,7 @@ impl Catalogue {
         ensures rows { IfOk result (λ n. n ≡ length (loaded_rows (seen_of self.old) file.now)) }
         ensures saves { OnOk result (SavesBack (seen_of self.new) file.now) }
     {
-        match self {
-            Catalogue::Void => Err(Refusal::State(StateFault::Void)),
-            Catalogue::Open(index) => load_file(index, file),
-        }
+        let index = self.index.as_mut().ok_or(StateFault::Void)?;
+        load_file(index, file)
     }
 }

@@ -60,10 +60,8 @@ impl Catalogue {
         ensures bytes { SavedAs (seen_of self.now) output.old output.new result }
         ensures loads { LoadsBack self.now }
     {
-        match self {
-            Catalogue::Void => Err(Refusal::State(StateFault::Void)),
-            Catalogue::Open(index) => save_index(index, output),
-        }
+        let index = self.index.as_ref().ok_or(StateFault::Void)?;
+        save_index(index, output)
     }
 
     // Sets the count to that of the listed clips. On a refusal the count stays.
@@ -71,9 +69,7 @@ impl Catalogue {
         ensures told { refusal_of result ≡ count_told (seen_of self.now) }
         ensures numbers { CountedAs (seen_of self.now) count.old count.new result }
     {
-        match self {
-            Catalogue::Void => Err(Refusal::State(StateFault::Void)),
-            Catalogue::Open(index) => count_index(index, count),
-        }
+        let index = self.index.as_ref().ok_or(StateFault::Void)?;
+        count_index(index, count)
     }
 }

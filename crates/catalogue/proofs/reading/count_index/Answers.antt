@@ -1,7 +1,7 @@
-use Rattle.std.proofs.Common.{◌≡◌, ◌-◌, length, take, sym, refl, ap, ◌∙◌, rules}
+use Rattle.std.proofs.Common.{◌-◌, length, take, refl, ap, ◌∙◌, rules}
 use Rattle.space.specs.Row.{stored_rows}
 use Rattle.rules.specs.Tree.{rows_in}
-use Rattle.tree.specs.Seen.{plan_of, tree_in}
+use Rattle.tree.specs.Seen.{tree_in}
 use Rattle.catalogue.proofs.Readings.{all_listed, count_none, count_some}
 use Rattle.catalogue.proofs.reading.count_index.Goals as goal
 

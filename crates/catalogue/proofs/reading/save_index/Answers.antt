@@ -1,4 +1,4 @@
-use Rattle.std.proofs.Common.{◌≡◌, ℕ, ◌-◌, true, List, length, take, Some, None, sym, ap, ◌∙◌, subst, ap₂, rules}
+use Rattle.std.proofs.Common.{◌≡◌, ◌-◌, true, length, take, Some, sym, ap, ◌∙◌, rules}
 use Rattle.space.specs.Boxes.{dimensions}
 use Rattle.space.specs.Row.{stored_rows}
 use Rattle.rules.specs.Rows.{rising}
