@@ -19,22 +19,14 @@ use tree::Index;
 // The most clips that a catalogue lists.
 const MOST: usize = 4096;
 
-const BLANK: StoredClip = StoredClip {
-    number: 0,
-    letters: [0; 10],
-};
-
 // Writes the file of an index.
 fn save_index(index: &Index, output: &mut [u8]) -> Result<usize, Refusal>
     ensures told { refusal_of result ≡ of_save (length (saved (plan_of index.now) (rows_in (tree_in index.now)))) (length output.old) }
     ensures bytes { SavedAs (seen_index index.now) output.old output.new result }
 {
-    let mut clips = [BLANK; MOST];
+    let mut clips = [StoredClip::default(); MOST];
     let n = index.rising(&mut clips).unwrap_or(0);
-    match write_file(index.plan(), &clips[0..n], output) {
-        Some(bytes) => Ok(bytes),
-        None => Err(Refusal::State(StateFault::Output)),
-    }
+    write_file(index.plan(), &clips[0..n], output).ok_or(Refusal::State(StateFault::Output))
 }
 
 // Counts the clips of an index.
@@ -42,15 +34,10 @@ fn count_index(index: &Index, count: &mut Count) -> Result<(), Refusal>
     ensures told { refusal_of result ≡ of_count (rows_in (tree_in index.now)) }
     ensures numbers { CountedAs (seen_index index.now) count.old count.new result }
 {
-    let mut clips = [BLANK; MOST];
+    let mut clips = [StoredClip::default(); MOST];
     let n = index.clips(&mut clips).unwrap_or(0);
-    match Count::of_described(index.plan(), &clips[0..n]) {
-        Some(made) => {
-            *count = made;
-            Ok(())
-        }
-        None => Err(Refusal::State(StateFault::Empty)),
-    }
+    *count = Count::of_described(index.plan(), &clips[0..n]).ok_or(StateFault::Empty)?;
+    Ok(())
 }
 
 impl Catalogue {
