@@ -26,7 +26,7 @@ returns c =
     let r = c.write_file.result in
     let plan = c.plan.ensures.value in
     let a = save_answer x clips room l.1 axes r (e.value ∙ ap (λ p. written_length (length p) (length clips) room) plan)
-        (subst (λ p. IfSome r (λ k. k ≡ length (written p (stored_rows (length p) clips)))) plan e.long) in
+    (subst (λ p. IfSome r (λ k. k ≡ length (written p (stored_rows (length p) clips)))) plan e.long) in
     let new = e.bytes ∙ ap (λ p. output_after p clips output r) plan in
     record {
       told = ap refusal_of c.ok_or.ensures.value ∙ a.0;
