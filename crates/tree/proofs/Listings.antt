@@ -1,8 +1,8 @@
 -- The clips of a tree written to a list.
-use Rattle.std.proofs.Common.{◌≡◌, ℕ, zero, suc, ◌+◌, ◌-◌, ◌<◌, ◌≤◌, List, [], ◌∷◌, ◌++◌, length, get_or, take, drop, set, Some, None, vec_items, sym, refl, ap, ◌∙◌, subst, add-one, arith, length-set}
+use Rattle.std.proofs.Common.{◌≡◌, ℕ, zero, suc, ◌+◌, ◌-◌, ◌<◌, ◌≤◌, List, [], ◌∷◌, ◌++◌, length, get_or, take, drop, set, Some, vec_items, sym, refl, ap, ◌∙◌, subst, add-one, arith, length-set}
 use Rattle.std.specs.List.{flat_map}
 use Rattle.std.proofs.lemmas.List.{append-nil, take_more, take_more_set, take_all, drop-drop, drop-set-lt, flat_map_more, length-map}
-use Rattle.std.proofs.lemmas.Bool.{le-leb, lt-leb}
+use Rattle.std.proofs.lemmas.Bool.{le-leb}
 use Rattle.space.specs.Boxes.{given}
 use Rattle.space.specs.Row.{Row, stored_row, stored_rows}
 use Rattle.space.specs.declared.clip.StoredClip.{StoredClip}
@@ -112,9 +112,3 @@ module _ (x : Index) (N : List Node) (isN : N ≡ vec_items x.nodes) where
         count = ap Some many ∙ sym (ap (λ b. given b (length rows)) (le-leb (length rows) (length A) room));
         front = record { clips = ap (stored_rows (length (plan_of x))) p.front ∙ root_rows; rest = p.rest };
       }
-
-pub listed_none : (x : Index) (rows : List Row) (A : List StoredClip) → length A < x.clips → Listed x rows A A None
-listed_none x rows A l = record {
-  count = sym (ap (λ b. given b (length (rows_in (tree_in x)))) (lt-leb (length (rows_in (tree_in x))) (length A) (omega (arith, (whole_of x).count))));
-  front = refl;
-}

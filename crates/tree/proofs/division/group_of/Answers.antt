@@ -1,6 +1,6 @@
 use Rattle.tree.specs.Nodes.{no_entry}
 use Rattle.std.proofs.Common.{◌+◌, ◌/◌, ◌^◌, [], ◌∷◌, ◌++◌, length, get_or, take, drop, sym, ap, ◌∙◌, ap₂, arith, length-set}
-use Rattle.std.proofs.lemmas.List.{append-nil, append_assoc, drop_all, take_more_set}
+use Rattle.std.proofs.lemmas.List.{append_assoc, take_more_set}
 use Rattle.rules.specs.Division.{group}
 use Rattle.tree.proofs.Parts.{group_takes, group_passes}
 use Rattle.tree.proofs.division.group_of.Goals as goal
@@ -31,12 +31,3 @@ loop-i-preserved c =
             ∙ ap (λ x. take n out ++ x) (sym (group_passes b code es i no_entry _ (omega arith) c.in_code.ensures w.if-in_code-second.false)) ∙ c.loop-i.invariant.2,
       )
     ]
-
-pub returns : goal.returns
-returns c =
-    let n = c.loop-i.n in
-    let out = c.loop-i.out in (
-      sym (append-nil (take n out))
-          ∙ ap (λ x. take n out ++ group c.args.second (c.args.code / 2 ^ c.loop-i.i) x) (sym (drop_all c.loop-i.i c.args.entries.now (omega arith))) ∙ c.loop-i.invariant.2,
-      omega arith,
-    )
