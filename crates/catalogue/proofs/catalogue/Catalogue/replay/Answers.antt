@@ -1,4 +1,4 @@
-use Rattle.std.proofs.Common.{◌≡◌, ◌-◌, ◌<◌, length, replicate, ap, ◌∙◌, subst, arith}
+use Rattle.std.proofs.Common.{◌-◌, ◌<◌, length, ◌∙◌, arith, rules}
 use native.Mathlib.Nat.{min-le_left, min-le_right}
 use Rattle.std.proofs.lemmas.List.{get_or-take, length-take}
 use Rattle.catalogue.specs.Replays.{calls_of, Replayed}
@@ -18,16 +18,8 @@ loop-i-preserved c =
       c.make.auto.worklist ∙ c.loop-i.invariant.1,
     )
 
-pub returns : goal.returns
-returns c =
-    let left = min-le_left (length c.args.calls.now) (length c.args.answers.now) in
-    let l = length-take (c.min-n.result - 0) c.args.calls.now in
-    let e : c.loop-i.i ≡ c.min-n.result = omega (arith, c.min-n.ensures) in
-    let words = length c.args.worklist.now in
-    let d = subst (Replayed c.args.self.now c.loop-i.self (calls_of (length c.args.worklist.now) c.args.calls.now) c.args.answers.now c.loop-i.answers) e c.loop-i.invariant.0 in
-    record {
-      does = d;
-      many = c.min-n.ensures;
-      runs = runs_all c.args.self.now c.loop-i.self (calls_of (length c.args.worklist.now) c.args.calls.now) c.args.answers.now c.loop-i.answers c.min-n.result d;
-      wiped = c.drop-guard.ensures ∙ ap (λ n. replicate n 0) c.loop-i.invariant.1;
-    }
+pub returns-clause-runs : goal.returns-clause-runs
+returns-clause-runs c =
+    let calls = calls_of (length c.args.worklist.now) c.args.calls.now in
+    let d : Replayed c.args.self.now c.loop-i.self (calls_of (length c.args.worklist.now) c.args.calls.now) c.args.answers.now c.loop-i.answers c.min-n.result = search rules in
+    runs_all c.args.self.now c.loop-i.self calls c.args.answers.now c.loop-i.answers c.min-n.result d
