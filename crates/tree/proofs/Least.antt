@@ -37,20 +37,27 @@ is_gt_then a b o t e = grind (arith, nat_tests)
 is_gt_last : (a b : ℕ) → is_gt (nat_cmp a b) ≡ ltb b a
 is_gt_last a b = grind (arith, nat_tests)
 
-picked : {X Y : Type 0} (v : X → Y) (test : Y → Y → Bool) (o : Ordering) (p z : X) → is_gt o ≡ test (v z) (v p) → v (min_by_ordering o p z) ≡ lesser_by test (v p) (v z)
+picked : {X Y : Type 0} (v : X → Y) (test : Y → Y → Bool) (o : Ordering) (p z : X) → is_gt o ≡ test (v z) (v p)
+    → v (min_by_ordering o p z) ≡ lesser_by test (v p) (v z)
 picked v test Less p z e = ap (λ t. cond t (v z) (v p)) e
 picked v test Equal p z e = ap (λ t. cond t (v z) (v p)) e
 picked v test Greater p z e = ap (λ t. cond t (v z) (v p)) e
 
-pub picks_lesser : {X : Type 0} (v : X → Score) (p z : X)
-    → v (min_by_ordering (ordering_then (nat_cmp (v p).0 (v z).0) (ordering_then (nat_cmp (v p).1 (v z).1) (nat_cmp (v p).2 (v z).2))) p z) ≡ lesser (v p) (v z)
+-- a struct with such fields, in this order, is compared so
+abbrev pub cmp_scores : Score → Score → Ordering
+cmp_scores x y = ordering_then (nat_cmp x.0 y.0) (ordering_then (nat_cmp x.1 y.1) (nat_cmp x.2 y.2))
+
+abbrev pub cmp_placed : Placed → Placed → Ordering
+cmp_placed x y = ordering_then (nat_cmp x.0.0 y.0.0) (ordering_then (nat_cmp x.0.1 y.0.1) (ordering_then (nat_cmp x.0.2 y.0.2) (nat_cmp x.1 y.1)))
+
+pub picks_lesser : {X : Type 0} (v : X → Score) (p z : X) → v (min_by_ordering (cmp_scores (v p) (v z)) p z) ≡ lesser (v p) (v z)
 picks_lesser v p z =
     picked v less _ p z (is_gt_then (v p).0 (v z).0 _ _ (is_gt_then (v p).1 (v z).1 _ _ (is_gt_last (v p).2 (v z).2)))
 
-pub picks_first : {X : Type 0} (v : X → Placed) (p z : X)
-    → v (min_by_ordering (ordering_then (nat_cmp (v p).0.0 (v z).0.0) (ordering_then (nat_cmp (v p).0.1 (v z).0.1) (ordering_then (nat_cmp (v p).0.2 (v z).0.2) (nat_cmp (v p).1 (v z).1)))) p z) ≡ first_of (v p) (v z)
+pub picks_first : {X : Type 0} (v : X → Placed) (p z : X) → v (min_by_ordering (cmp_placed (v p) (v z)) p z) ≡ first_of (v p) (v z)
 picks_first v p z =
-    picked v ahead _ p z (is_gt_then (v p).0.0 (v z).0.0 _ _ (is_gt_then (v p).0.1 (v z).0.1 _ _ (is_gt_then (v p).0.2 (v z).0.2 _ _ (is_gt_last (v p).1 (v z).1))))
+    picked v ahead _ p z
+    (is_gt_then (v p).0.0 (v z).0.0 _ _ (is_gt_then (v p).0.1 (v z).0.1 _ _ (is_gt_then (v p).0.2 (v z).0.2 _ _ (is_gt_last (v p).1 (v z).1))))
 
 -- ---- the first least score
 module _ (score : ℕ → Score) where
@@ -67,8 +74,10 @@ module _ (score : ℕ → Score) where
       let z : suc (suc a) + n ≡ suc a + suc n = omega arith in
       let b = first_least score (suc a) in
       let here = later (first_least score (suc a)) (suc a) (first_least_lem score a).0 in
-      let step : first_of (at b) (at (suc a)) ≡ at (first_least score (suc (suc a))) = ap (λ t. cond t (at (suc a)) (at b)) here ∙ pull (less (score (suc a)) (score b)) (suc a) b in
-      ap (λ x. fold first_of x (map at (range_with_len (suc a + 1) n))) step ∙ ap (λ k. fold first_of (at (first_least score (suc (suc a)))) (map at (range_with_len k n))) (add-one (suc a))
+      let step : first_of (at b) (at (suc a)) ≡ at (first_least score (suc (suc a)))
+      = ap (λ t. cond t (at (suc a)) (at b)) here ∙ pull (less (score (suc a)) (score b)) (suc a) b in
+      ap (λ x. fold first_of x (map at (range_with_len (suc a + 1) n))) step
+      ∙ ap (λ k. fold first_of (at (first_least score (suc (suc a)))) (map at (range_with_len k n))) (add-one (suc a))
       ∙ least_from n (suc a) ∙ ap (λ m. at (first_least score m)) z
     where
       pull : (t : Bool) (i j : ℕ) → cond t (at i) (at j) ≡ at (cond t i j)
@@ -79,7 +88,8 @@ module _ (score : ℕ → Score) where
   least_reduced zero h = absurd (omega arith)
   least_reduced (suc n) h =
       let z : 1 + n ≡ suc n = omega arith in
-      ap (λ i. Some (fold first_of (at i) (map at (range_with_len 1 n)))) (sym (least_first score)) ∙ ap Some (least_from n 0 ∙ ap (λ m. at (first_least score m)) z)
+      ap (λ i. Some (fold first_of (at i) (map at (range_with_len 1 n)))) (sym (least_first score))
+      ∙ ap Some (least_from n 0 ∙ ap (λ m. at (first_least score m)) z)
 
 -- ---- the best division
 module _ (d : ℕ) (bs : List (List ℕ)) where
@@ -129,7 +139,8 @@ module _ (d : ℕ) (bs : List (List ℕ)) where
   pub best_reduced : reduce lesser (map P (filter divides (range_with_len 0 512))) ≡ Some (P (divided d bs))
   unfolding divided
   best_reduced =
-      ap (λ ks. reduce lesser (map P ks)) first_divides ∙ ap (λ x. Some (fold lesser x (map P (filter divides (range_with_len 15 497))))) (sym first_best) ∙ ap Some (best_from 497 15)
+      ap (λ ks. reduce lesser (map P ks)) first_divides
+      ∙ ap (λ x. Some (fold lesser x (map P (filter divides (range_with_len 15 497))))) (sym first_best) ∙ ap Some (best_from 497 15)
 
 pub some_from_map : {X Y : Type 0} (v : X → Y) (r : Option X) (y : Y) → option_map v r ≡ Some y → (x : X) × (r ≡ Some x) × (v x ≡ y)
 some_from_map v None y e = absurd (cc)

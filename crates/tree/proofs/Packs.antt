@@ -44,7 +44,7 @@ module _ (ls : List ℕ) (n w l : ℕ) (ten : length ls ≡ 10) (small : (k : �
       let z : suc n ≡ m = omega arith in (
         subst (λ k. w * 64 + l < 64 ^ k) z (omega (arith, below, inv.0)),
         ap (λ k. letters_of k (w * 64 + l)) (sym z) ∙ ap₂ (λ x y. x ∷ letters_of n y) a b ∙ ap₂ (λ x xs. x ∷ xs) is (inv.1 ∙ ap (λ k. drop k ls) (sym at))
-        ∙ sym (drop_more ls (9 - n) 0 (omega (arith, before))) ∙ ap (λ k. drop k ls) from,
+            ∙ sym (drop_more ls (9 - n) 0 (omega (arith, before))) ∙ ap (λ k. drop k ls) from,
       )
 
 -- words before the clip n stay, so do the clips

@@ -57,12 +57,14 @@ lower_in_rank : (d : ℕ) (C : List StoredClip) → IsNonDecreasingBy (λ c. c.n
 lower_in_rank d [] up = tt
 lower_in_rank d (c ∷ cs) up = (
   All-map (λ r. lower r (stored_row d c) ≡ false) (stored_row d) cs
-      (All-from_get_or (λ y. ltb y.number c.number ≡ false) cs no_clip (λ i l. le-ltb (get_or cs i no_clip).number c.number (up 0 (suc i) no_clip (omega arith) (omega arith)))),
+      (All-from_get_or (λ y. ltb y.number c.number ≡ false) cs no_clip
+      (λ i l. le-ltb (get_or cs i no_clip).number c.number (up 0 (suc i) no_clip (omega arith) (omega arith)))),
   lower_in_rank d cs (λ i j e h l. up (suc i) (suc j) e (omega arith) (omega arith)),
 )
 
 -- clips sorted by their numbers are in rising number, if no number stands twice
-sorted_rising : (d : ℕ) (A B : List StoredClip) → IsPermutation A B → IsNonDecreasingBy (λ c. c.number) B → Once (stored_rows d A) → stored_rows d B ≡ rising (stored_rows d A)
+sorted_rising : (d : ℕ) (A B : List StoredClip) → IsPermutation A B → IsNonDecreasingBy (λ c. c.number) B
+    → Once (stored_rows d A) → stored_rows d B ≡ rising (stored_rows d A)
 sorted_rising d A B moved up once =
     let same = same_map (stored_row d) (same_moved A B moved) in
     rising_only (stored_rows d A) (stored_rows d B) once same
@@ -88,7 +90,8 @@ listed_rising x A B S n long p moved up =
     record {
       count = p.count;
       front = record {
-        clips = ap (stored_rows d) (take_at S (drop n B) n s) ∙ sorted_rising d (take n B) S moved up (subst Once (sym p.front.clips) (whole_of x).once) ∙ ap rising p.front.clips;
+        clips = ap (stored_rows d) (take_at S (drop n B) n s)
+            ∙ sorted_rising d (take n B) S moved up (subst Once (sym p.front.clips) (whole_of x).once) ∙ ap rising p.front.clips;
         rest = drop_at S (drop n B) n s ∙ p.front.rest;
       };
     }

@@ -5,7 +5,7 @@ ghost use Rattle.std.specs.List.{AllByRecursion};
 
 use crate::fixed::{Sets, area_of, common_of, point_of, union_of};
 
-// What the choice looks at, the first first: how much the common areas of a box with the others grow, how much its area grows, its area
+// What the choice looks at, in this order: how much the common areas of a box with the others grow, how much its area grows, its area
 // before, and its place.
 #[derive(Clone, Copy, PartialEq, Eq, PartialOrd, Ord)]
 pub(crate) struct Growth {

@@ -15,7 +15,8 @@ pub(crate) fn in_code(code: usize, i: usize) -> bool
     (code >> i) % 2 == 1
 }
 
-// The box around those boxes that the code puts in one group.
+// The box around those boxes that the code puts in one group. `second` is the rules' own test of a group; an enum of the two groups would
+// be turned back into it in every clause.
 pub(crate) fn group_box(boxes: &[Sets], code: usize, second: bool) -> Sets
     requires { length boxes.now ≤ 9 }
     ensures { result ≡ around 10 (group second code boxes.now) }
@@ -29,7 +30,7 @@ pub(crate) fn group_box(boxes: &[Sets], code: usize, second: bool) -> Sets
     around
 }
 
-// What a division is judged by, the first first: the common area of the groups' boxes, the sum of their areas, and the code.
+// What a division is judged by, in this order: the common area of the groups' boxes, the sum of their areas, and the code.
 #[derive(Clone, Copy, PartialEq, Eq, PartialOrd, Ord)]
 pub(crate) struct Parting {
     pub(crate) common: u64,
