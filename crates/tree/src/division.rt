@@ -44,11 +44,13 @@ pub(crate) fn parting_of(boxes: &[Sets], dims: usize, code: usize) -> Parting
     requires nine { length boxes.now ≤ 9 }
     ensures { parting dims (map (take dims) boxes.now) code ≡ (result.common, result.areas, result.code) }
 {
-    let a = group_box(boxes, code, false);
-    let b = group_box(boxes, code, true);
+    let first = group_box(boxes, code, false);
+    let second = group_box(boxes, code, true);
+    let first = &first[0..dims];
+    let second = &second[0..dims];
     Parting {
-        common: common_of(&a[0..dims], &b[0..dims]),
-        areas: area_of(&a[0..dims]) + area_of(&b[0..dims]),
+        common: common_of(first, second),
+        areas: area_of(first) + area_of(second),
         code,
     }
 }

@@ -11,7 +11,7 @@ side_cut d b code bs r l e = sym (cut d r ∙ ap (take d) e ∙ take_around d (g
 
 pub returns : goal.returns
 returns c =
-    let a = side_cut c.args.dims false c.args.code c.args.boxes.now c.group_box-a.result c.requires.axes c.group_box-a.ensures in
-    let b = side_cut c.args.dims true c.args.code c.args.boxes.now c.group_box-b.result c.requires.axes c.group_box-b.ensures in
+    let a = side_cut c.args.dims false c.args.code c.args.boxes.now c.group_box-first.result c.requires.axes c.group_box-first.ensures in
+    let b = side_cut c.args.dims true c.args.code c.args.boxes.now c.group_box-second.result c.requires.axes c.group_box-second.ensures in
     ap₂ (λ (x y : ℕ). (x, y, c.args.code)) (ap₂ common a b ∙ sym c.common_of.ensures.value)
     (ap₂ ◌+◌ (ap area a ∙ sym c.area_of.ensures.value) (ap area b ∙ sym c.area_of-2.ensures.value))
