@@ -1,5 +1,5 @@
 -- The rows of a file entered one after the other.
-use Rattle.std.proofs.Common.{◌≡◌, ℕ, suc, ◌+◌, ◌-◌, ◌<◌, ◌≤◌, false, cond, not, eqb, ltb, List, [], ◌∷◌, ◌++◌, length, get_or, take, drop, replicate, IfOk, Some, None, Ok, Err, Option, Result, sym, refl, ap, ◌∙◌, subst, ap₂, subst₂, arith}
+use Rattle.std.proofs.Common.{◌≡◌, ℕ, ◌+◌, ◌-◌, ◌<◌, ◌≤◌, false, cond, not, eqb, ltb, List, [], ◌∷◌, ◌++◌, length, get_or, take, drop, OnOk, Some, None, Ok, Err, Option, Result, sym, refl, ap, ◌∙◌, subst, ap₂, subst₂, arith}
 use Rattle.std.specs.List.{AllByRecursion}
 use Rattle.std.proofs.lemmas.List.{take-append-drop, take_more, take_all, drop_more, length-take-le, append-nil}
 use Rattle.std.proofs.ByRecursion.{All-get_or}
@@ -9,16 +9,15 @@ use Rattle.space.specs.declared.clip.StoredClip.{StoredClip}
 use Rattle.ranked.specs.Same.{Same, then}
 use Rattle.ranked.proofs.Sames.{length_same}
 use Rattle.rules.specs.Tree.{Tree, rows_in}
-use Rattle.rules.specs.Build.{Build}
 use Rattle.rules.specs.Rows.{lists, rising}
 use Rattle.rules.specs.Enter.{entered, entered_all}
-use Rattle.rules.specs.Refusals.{Refusal, refused_at, when, when_at, ◌else◌, bad_letter, of_vector, of_clip, of_enter}
+use Rattle.rules.specs.Refusals.{Refusal, refused_at, when, ◌else◌, bad_letter, of_clip, of_enter}
 use Rattle.rules.specs.File.{header, bytes_of, number_bytes, letter_bytes, saved, file_rows, of_load}
 use Rattle.rules.specs.Finds.{Once}
 use Rattle.rules.proofs.Files.{loaded_saves, loaded_proper}
 use Rattle.rules.proofs.Rankings.{once_same}
 use Rattle.rules.proofs.Risings.{rising_same, rising_rises, rising_only}
-use Rattle.rules.specs.Register.{Call, enters, loads, unless, ruled}
+use Rattle.rules.specs.Register.{enters, loads, unless, ruled}
 use Rattle.rules.specs.Promise.{Proper}
 use Rattle.rules.specs.State.{standing, told, after}
 use Rattle.rules.proofs.Answered.{load_open}
@@ -33,16 +32,13 @@ use Rattle.file.specs.Reads.{no_row, row_at}
 use Rattle.file.proofs.Refusing.{loads_refuse, checked_rows}
 use Rattle.file.proofs.Passing.{row_given, row_letters}
 use Rattle.tree.specs.declared.index.Index.{Index}
-use Rattle.tree.specs.Seen.{plan_of, tree_in, seen_index, index_boxes}
+use Rattle.tree.specs.Seen.{plan_of, tree_in, seen_index}
 use Rattle.tree.specs.Calls as index
 use Rattle.tree.proofs.Changes.{enter_fine}
 use Rattle.tree.proofs.Wholes.{whole_of}
 use Rattle.tree.proofs.Starts.{padded}
 use Rattle.tree.proofs.Standings.{entered_push}
-use Rattle.catalogue.specs.declared.catalogue.Catalogue.{Catalogue}
-use Rattle.catalogue.specs.declared.catalogue.Catalogue.TheVariants.{Open}
-use Rattle.catalogue.specs.Seen.{seen_of}
-use Rattle.catalogue.specs.Loads.{Loaded, loaded_rows, SavesBack}
+use Rattle.catalogue.specs.Loads.{Loaded, SavesBack}
 use Rattle.refusals.specs.declared.refusal.Refusal.{Refusal as Held}
 use Rattle.refusals.specs.Refused.{refusal_of}
 
@@ -175,8 +171,6 @@ saves_back x file bytes fine =
     subst (λ a. SavesBack (standing (plan_of x) x.capacity (unless a (entered_all (length (plan_of x)) (tree_in x) (file_rows (plan_of x) file)) (tree_in x))) file) fine
     (saved_same (plan_of x) (file_rows (plan_of x) file) _ p.1 s ∙ back)
 
-pub open_loads : (c : Catalogue) (x y : Index) (file : List ℕ) (r : Result ℕ Held) → c ≡ Open x → AllByRecursion (λ b. b < 256) file → index.Does x y (loads file) (refusal_of r)
-    → IfOk r (λ n. n ≡ length (file_rows (plan_of x) file)) → IfOk r (λ n. n ≡ length (loaded_rows (seen_of c) file)) × IfOk r (λ _. SavesBack (seen_index y) file)
-open_loads c x y file (Err e) is bytes d rows = (tt, tt)
-open_loads c x y file (Ok n) is bytes d rows =
-    (rows ∙ ap (λ k. length (loaded_rows (seen_of k) file)) (sym is), subst (λ s. SavesBack s file) (sym d.seen) (saves_back x file bytes d.told))
+pub loads_saved : (x y : Index) (file : List ℕ) (r : Result ℕ Held) → AllByRecursion (λ b. b < 256) file → index.Does x y (loads file) (refusal_of r) → OnOk r (SavesBack (seen_index y) file)
+loads_saved x y file (Err e) bytes d = tt
+loads_saved x y file (Ok n) bytes d = subst (λ s. SavesBack s file) (sym d.seen) (saves_back x file bytes d.told)

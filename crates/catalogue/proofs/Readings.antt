@@ -1,39 +1,36 @@
 -- What is saved and counted of an index.
-use Rattle.std.proofs.Common.{◌≡◌, ℕ, ◌-◌, ◌<◌, ◌≤◌, Bool, true, false, cond, not, ◌&&◌, eqb, ltb, leb, List, [], ◌∷◌, ◌++◌, map, length, take, drop, is_some, Some, None, Option, Result, unwrap_or, sym, refl, ap, ◌∙◌, subst, ap₂, subst₂, arith, MatchOption}
+use Rattle.std.proofs.Common.{◌≡◌, ℕ, ◌-◌, ◌<◌, ◌≤◌, Bool, true, false, cond, not, ◌&&◌, eqb, leb, List, [], ◌∷◌, ◌++◌, length, take, drop, is_some, ok_or, IfSome, Some, None, Option, unwrap_or, sym, refl, ap, ◌∙◌, subst, ap₂, arith, MatchOption}
 use Rattle.std.specs.List.{AllByRecursion}
 use Rattle.std.proofs.lemmas.List.{length-map}
 use Rattle.std.proofs.ByRecursion.{All-weaker}
-use Rattle.std.proofs.lemmas.Bool.{false≢true, eqb-true, le-leb, leb-true, leb-false, le-ltb, lt-ltb, and_parts, and_from, ne_eqb}
+use Rattle.std.proofs.lemmas.Bool.{false≢true, eqb-true, le-leb, leb-true, leb-false, le-ltb, lt-ltb, and_from}
 use Rattle.space.specs.Boxes.{dimensions, given}
 use Rattle.space.specs.Plans.{plan_fault, letter_fault, vector_fault}
 use Rattle.space.specs.declared.plan.ClipFault.TheVariants.{Dimensions}
 use Rattle.space.specs.Row.{Row, stored_rows}
 use Rattle.space.specs.declared.clip.StoredClip.{StoredClip}
 use Rattle.ranked.proofs.Sames.{all_same, length_same}
-use Rattle.measures.specs.Counts.{count_at, of_plan, limits, countable}
-use Rattle.measures.specs.Counted.{CountIs}
-use Rattle.measures.specs.declared.count.Count.{Count}
+use Rattle.measures.specs.Counts.{of_plan, limits, countable}
 use Rattle.rules.specs.Tree.{empty, rows_in}
 use Rattle.rules.specs.Rows.{rising}
 use Rattle.rules.specs.File.{saved, file_rows, of_load}
 use Rattle.rules.specs.Register.{registered, grown}
-use Rattle.rules.specs.State.{save_told}
 use Rattle.rules.proofs.RoundTrip.{runs_save}
 use Rattle.rules.proofs.Runs.{runs_keep}
-use Rattle.rules.specs.Refusals.{Refusal, refused_at, when, of_save, of_count}
+use Rattle.rules.specs.Refusals.{refused_at, when, of_save, of_count}
 use Rattle.rules.proofs.Risings.{rising_same}
 use Rattle.file.specs.Writes.{written, file_length, written_length, output_after}
 use Rattle.file.proofs.Writings.{written_saves}
 use Rattle.tree.specs.declared.index.Index.{Index}
-use Rattle.tree.specs.Seen.{plan_of, tree_in, seen_index}
+use Rattle.tree.specs.Seen.{plan_of, seen_index, tree_in}
 use Rattle.tree.proofs.Starts.{fit_open}
-use Rattle.refusals.specs.declared.refusal.Refusal.{Refusal as Held}
 use Rattle.refusals.specs.Refused.{refusal_of}
+use Rattle.refusals.specs.declared.fault.StateFault.TheVariants.{Output}
+use Rattle.refusals.specs.declared.refusal.Refusal.TheVariants as held
 use Rattle.ranked.specs.Same.{Same}
 use Rattle.catalogue.specs.declared.catalogue.Catalogue.{Catalogue}
-use Rattle.catalogue.specs.declared.catalogue.Catalogue.TheVariants.{Open}
 use Rattle.catalogue.specs.Seen.{seen_of, boxes_of, seen_tree}
-use Rattle.catalogue.specs.Reads.{saved_of, SavedAs, LoadsBack}
+use Rattle.catalogue.specs.Reads.{SavedAs, saved_of, LoadsBack}
 use Rattle.tree.specs.Listing.{Front, Listed}
 use Rattle.tree.proofs.Wholes.{whole_of, few}
 
@@ -76,7 +73,7 @@ module _ (x : Index) (clips : List StoredClip) (room : ℕ) (is : stored_rows (l
   value_is : written_length (length (plan_of x)) (length clips) room ≡ given (leb (file_length (length (plan_of x)) (length clips)) room) (file_length (length (plan_of x)) (length clips))
   value_is = ap₂ (λ s t. given (s && (t && leb (file_length (length (plan_of x)) (length clips)) room)) (file_length (length (plan_of x)) (length clips))) axes fits
 
-  pub save_done : (k : ℕ) → Some k ≡ written_length (length (plan_of x)) (length clips) room → k ≡ length (written (plan_of x) (stored_rows (length (plan_of x)) clips))
+  save_done : (k : ℕ) → Some k ≡ written_length (length (plan_of x)) (length clips) room → k ≡ length (written (plan_of x) (stored_rows (length (plan_of x)) clips))
       → (None ≡ of_save (length (saved (plan_of x) (rows_in (tree_in x)))) room) × (k ≡ length (saved (plan_of x) (rows_in (tree_in x))))
   save_done k e n = (sym (ap (λ t. when t 27) (le-ltb room (length (saved (plan_of x) (rows_in (tree_in x)))) (room_for (e ∙ value_is)))), n ∙ ap length file)
     where
@@ -87,15 +84,22 @@ module _ (x : Index) (clips : List StoredClip) (room : ℕ) (is : stored_rows (l
           go true p s = omega (arith, leb-true (file_length (length (plan_of x)) (length clips)) room p, long)
           go false p s = absurd (let z : ◌≡◌ {A = ℕ} 0 1 = cc in omega arith)
 
-  pub save_short : None ≡ written_length (length (plan_of x)) (length clips) room → Some (refused_at 27 0 0) ≡ of_save (length (saved (plan_of x) (rows_in (tree_in x)))) room
+  save_short : None ≡ written_length (length (plan_of x)) (length clips) room → Some (refused_at 27 0 0) ≡ of_save (length (saved (plan_of x) (rows_in (tree_in x)))) room
   save_short e = sym (ap (λ t. when t 27) (lt-ltb room (length (saved (plan_of x) (rows_in (tree_in x)))) (go (leb (file_length (length (plan_of x)) (length clips)) room) refl (e ∙ value_is))))
     where
       go : (t : Bool) → leb (file_length (length (plan_of x)) (length clips)) room ≡ t → None ≡ given t (file_length (length (plan_of x)) (length clips)) → room < length (saved (plan_of x) (rows_in (tree_in x)))
       go true p s = absurd (let z : ◌≡◌ {A = ℕ} 0 1 = cc in omega arith)
       go false p s = omega (arith, leb-false (file_length (length (plan_of x)) (length clips)) room p, long)
 
-  pub save_bytes : (output : List ℕ) (k : ℕ) → k ≡ length (saved (plan_of x) (rows_in (tree_in x))) → output_after (plan_of x) clips output (Some k) ≡ saved (plan_of x) (rows_in (tree_in x)) ++ drop k output
+  save_bytes : (output : List ℕ) (k : ℕ) → k ≡ length (saved (plan_of x) (rows_in (tree_in x))) → output_after (plan_of x) clips output (Some k) ≡ saved (plan_of x) (rows_in (tree_in x)) ++ drop k output
   save_bytes output k n = ap₂ (λ b m. b ++ drop m output) file (ap length file ∙ sym n)
+
+  -- what is answered and written, whether there was room or not
+  pub save_answer : (o : Option ℕ) → o ≡ written_length (length (plan_of x)) (length clips) room → IfSome o (λ k. k ≡ length (written (plan_of x) (stored_rows (length (plan_of x)) clips)))
+      → (refusal_of (ok_or o (held.State Output)) ≡ of_save (length (saved (plan_of x) (rows_in (tree_in x)))) room)
+      × ((output : List ℕ) → SavedAs (seen_index x) output (output_after (plan_of x) clips output o) (ok_or o (held.State Output)))
+  save_answer None e n = (save_short e, λ output. refl)
+  save_answer (Some k) e n = let d = save_done k e n in (d.0, λ output. (d.1, save_bytes output k d.1))
 
 -- ---- the count of an index
 module _ (x : Index) (plan : List ℕ) (clips : List StoredClip) (same : plan ≡ plan_of x) (is : stored_rows (length plan) clips ≡ rows_in (tree_in x)) where
@@ -123,15 +127,6 @@ module _ (x : Index) (plan : List ℕ) (clips : List StoredClip) (same : plan �
           (rows_of_plan (rows_in (tree_in x)) w.proper) in
           absurd (false≢true (sym test ∙ yes))
 
-  pub count_some : (count : Count) → countable plan (stored_rows (length plan) clips) ≡ true
-      → CountIs (length plan) (length (stored_rows (length plan) clips)) (λ i l. count_at i l (stored_rows (length plan) clips)) count
-      → (None ≡ of_count (rows_in (tree_in x))) × CountIs (length (plan_of x)) (length (rows_in (tree_in x))) (λ i l. count_at i l (rows_in (tree_in x))) count
-  count_some count e c =
-      let some = (and_parts (leb 1 (length (stored_rows (length plan) clips))) _ (and_parts (not (is_some (plan_fault plan))) _ (and_parts (limits plan (length (stored_rows (length plan) clips))) _ e).0).1).0 in (
-        sym (ap (λ t. when t 26) (ne_eqb (length (rows_in (tree_in x))) 0 (λ z. omega (arith, leb-true 1 (length (stored_rows (length plan) clips)) some, ap length is)))),
-        subst₂ (λ p rows. CountIs (length p) (length rows) (λ i l. count_at i l rows) count) same is c,
-      )
-
 -- ---- what is saved loads again
 pub loads_back : (c : Catalogue) → LoadsBack c
 loads_back c plan capacity calls m possible =
@@ -139,7 +134,3 @@ loads_back c plan capacity calls m possible =
     let e : saved_of (seen_of c) ≡ saved plan (rows_in (grown plan capacity [] (empty (length plan)) calls)) = ap saved_of m.seen in
     let r = runs_save plan capacity calls (grown plan capacity [] (empty (length plan)) calls) (runs_keep plan capacity calls) possible (omega (arith, (fit_open plan capacity (boxes_of c) m.fit).most)) in
     (ap (of_load plan capacity []) e ∙ r.0, subst (λ f. Same (registered plan capacity [] calls) (file_rows plan f)) (sym e) r.1)
-
-pub open_saved : (c : Catalogue) (x : Index) (old new : List ℕ) (r : Result ℕ Held) → c ≡ Open x → refusal_of r ≡ of_save (length (saved (plan_of x) (rows_in (tree_in x)))) (length old) → SavedAs (seen_index x) old new r
-    → (refusal_of r ≡ save_told (seen_of c) (length old)) × SavedAs (seen_of c) old new r
-open_saved c x old new r is told bytes = subst (λ k. (refusal_of r ≡ save_told (seen_of k) (length old)) × SavedAs (seen_of k) old new r) (sym is) (told, bytes)

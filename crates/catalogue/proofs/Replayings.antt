@@ -1,16 +1,16 @@
 -- Calls made one after the other.
-use Rattle.std.proofs.Common.{◌≡◌, ℕ, ◌+◌, ◌<◌, ◌≤◌, List, [], ◌∷◌, ◌++◌, map, length, get_or, take, drop, set, None, Option, sym, refl, ap, ◌∙◌, subst, ap₂, arith, length-set}
+use Rattle.std.proofs.Common.{◌≡◌, ℕ, ◌+◌, ◌<◌, List, [], ◌∷◌, ◌++◌, length, get_or, take, drop, set, Option, sym, refl, ap, ◌∙◌, subst, ap₂, arith}
 use Rattle.std.specs.Option.{option_map}
 use Rattle.std.proofs.lemmas.List.{append_assoc, append-nil, take_more, take_more_set, drop-drop, drop-set-lt, map_push, get_or-map, length-map}
 use Rattle.refusals.specs.declared.refusal.Refusal.{Refusal as Held}
 use Rattle.refusals.specs.Refused.{numbered}
-use Rattle.rules.specs.Refusals.{Refusal, of_fit}
+use Rattle.rules.specs.Refusals.{of_fit}
 use Rattle.rules.specs.Tree.{empty}
-use Rattle.rules.specs.Register.{Call, next, registered, answer, answers, grown}
+use Rattle.rules.specs.Register.{Call, registered, answers, grown}
 use Rattle.rules.specs.State.{Seen, standing, told, after}
 use Rattle.rules.proofs.Runs.{runs_step}
 use Rattle.catalogue.specs.declared.catalogue.Catalogue.{Catalogue}
-use Rattle.catalogue.specs.Seen.{seen_of, boxes_of}
+use Rattle.catalogue.specs.Seen.{seen_of}
 use Rattle.catalogue.specs.Runs.{Does, MadeBy}
 use Rattle.catalogue.specs.declared.call.Call as held
 use Rattle.catalogue.specs.Replays.{call_of, calls_of, numbered_all, told_all, after_all, Replayed, RunsAll}

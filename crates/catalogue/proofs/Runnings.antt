@@ -1,18 +1,18 @@
 -- The law over runs, from what one call does.
-use Rattle.std.proofs.Common.{◌≡◌, ℕ, ◌≤◌, true, false, eqb, List, [], ◌∷◌, ◌++◌, length, Some, None, Option, sym, refl, ap, ◌∙◌, subst}
-use Rattle.rules.specs.Tree.{Tree, empty, rows_in}
-use Rattle.rules.specs.Refusals.{Refusal, when, of_fit, of_clip, of_enter}
-use Rattle.rules.specs.Rows.{lists}
+use Rattle.std.proofs.Common.{◌≡◌, ℕ, List, [], ◌∷◌, ◌++◌, length, IfOk, Some, None, Ok, Err, Option, Result, sym, ap, ◌∙◌, subst}
+use Rattle.std.specs.Result.{result_ok}
+use Rattle.rules.specs.Tree.{Tree, empty}
+use Rattle.rules.specs.Refusals.{Refusal, of_fit}
 use Rattle.rules.specs.Register.{Call, enters, answer, ruled, unless, registered, grown}
-use Rattle.rules.specs.State.{Seen, void, standing, told, after, started, Made}
+use Rattle.rules.specs.State.{Seen, void, standing, told, after}
 use Rattle.rules.specs.Promise.{Kept}
-use Rattle.rules.proofs.Runs.{runs_keep, runs_answer, runs_step, runs_go_on, enter_at_capacity}
+use Rattle.rules.proofs.Runs.{runs_keep, runs_answer, runs_step, enter_at_capacity}
 use Rattle.tree.specs.declared.index.Index.{Index}
 use Rattle.tree.specs.Seen.{seen_index, index_boxes}
-use Rattle.tree.specs.Calls as index
+use Rattle.refusals.specs.declared.refusal.Refusal.{Refusal as Held}
+use Rattle.refusals.specs.Refused.{numbered, refusal_of}
 use Rattle.catalogue.specs.declared.catalogue.Catalogue.{Catalogue}
-use Rattle.catalogue.specs.declared.catalogue.Catalogue.TheVariants.{Open}
-use Rattle.catalogue.specs.Seen.{seen_of, boxes_of, seen_tree}
+use Rattle.catalogue.specs.Seen.{seen_of, seen_tree}
 use Rattle.catalogue.specs.Runs.{Does, MadeBy, KeptBy, RunsOn, AtCapacity, Started}
 
 -- the tree of a run
@@ -53,21 +53,20 @@ at_capacity c e n v refusal d plan capacity calls m proper new =
     d.told ∙ seen_answer plan capacity calls (seen_of c) m.seen (enters n v)
     ∙ enter_at_capacity plan capacity (registered plan capacity [] calls) n v proper new (runs_keep plan capacity calls).room
 
--- ---- an open catalogue does what its index does
-pub open_does : (c : Catalogue) (x y : Index) (call : Call) (refusal : Option Refusal) → c ≡ Open x → index.Does x y call refusal → Does c (Open y) call refusal
-open_does c x y call refusal is d = subst (λ k. Does k (Open y) call refusal) (sym is) (record {
-  told = d.told;
-  seen = d.seen;
-  boxes = d.boxes;
-  kept = λ h. ap Open (d.kept h);
-})
+-- ---- a catalogue with an index
+abbrev pub opened : Index → Catalogue
+opened x = record { index = Some x }
 
--- ---- a start that is fit
-pub open_started : (plan : List ℕ) (capacity boxes : ℕ) (x : Index) → None ≡ of_fit plan capacity boxes → seen_index x ≡ standing plan capacity (empty (length plan)) → index_boxes x ≡ boxes
-    → Started plan capacity boxes (Open x)
-open_started plan capacity boxes x told seen long = record {
-  seen = seen ∙ ap (λ a. unless a (standing plan capacity (empty (length plan))) void) told;
+-- ---- a start
+pub start_leaves : (plan : List ℕ) (capacity boxes : ℕ) (r : Result Index Held) → refusal_of r ≡ of_fit plan capacity boxes
+    → IfOk r (λ x. (seen_index x ≡ standing plan capacity (empty (length plan))) × (index_boxes x ≡ boxes)) → Started plan capacity boxes (record { index = result_ok r })
+start_leaves plan capacity boxes (Err e) told made = record {
+  seen = ap (λ a. unless a (standing plan capacity (empty (length plan))) void) told;
+  made = λ fit. let z : Some (numbered e) ≡ None = told ∙ fit in absurd (cc);
+}
+start_leaves plan capacity boxes (Ok x) told made = record {
+  seen = made.0 ∙ ap (λ a. unless a (standing plan capacity (empty (length plan))) void) told;
   made = λ fit.
-      let m : MadeBy plan capacity [] (Open x) = record { fit = ap (of_fit plan capacity) long ∙ fit; seen = seen } in
-      (m, made_kept plan capacity [] (Open x) m);
+      let m : MadeBy plan capacity [] (opened x) = record { fit = ap (of_fit plan capacity) made.1 ∙ fit; seen = made.0 } in
+      (m, made_kept plan capacity [] (opened x) m);
 }

@@ -12,7 +12,7 @@ use Rattle.rules.specs.LawsFile.{Possible}
 use Rattle.rules.specs.Register.{Call, registered}
 use Rattle.rules.specs.State.{Seen, void, standing}
 use Rattle.catalogue.specs.declared.catalogue.Catalogue.{Catalogue}
-use Rattle.catalogue.specs.Seen.{seen_of, seen_tree}
+use Rattle.catalogue.specs.Seen.{seen_of}
 use Rattle.catalogue.specs.Runs.{MadeBy}
 
 -- the bytes that are saved of what is seen

@@ -1,9 +1,9 @@
 -- What a call does to a catalogue, and what that means for every run of calls that made it.
-use Rattle.std.specs.Prelude.{◌≡◌, ℕ, ◌<◌, true, false, List, [], ◌∷◌, ◌++◌, length, is_some, None, Option, ◌==◌}
+use Rattle.std.specs.Prelude.{◌≡◌, ℕ, true, false, List, [], ◌∷◌, ◌++◌, length, is_some, None, Option, ◌==◌}
 use Rattle.rules.specs.Refusals.{Refusal, when, of_fit, of_clip}
 use Rattle.rules.specs.Rows.{lists}
 use Rattle.rules.specs.Register.{Call, answer, registered}
-use Rattle.rules.specs.State.{Seen, told, after, started, Made}
+use Rattle.rules.specs.State.{told, after, started, Made}
 use Rattle.rules.specs.Promise.{Kept}
 use Rattle.catalogue.specs.declared.catalogue.Catalogue.{Catalogue}
 use Rattle.catalogue.specs.Seen.{seen_of, boxes_of, seen_tree}

@@ -1,19 +1,26 @@
 -- A catalogue as it is seen.
-use Rattle.std.specs.Prelude.{ℕ}
+use Rattle.std.specs.Prelude.{ℕ, None, Some, Option}
 use Rattle.rules.specs.Tree.{Tree, empty}
 use Rattle.rules.specs.State.{Seen, void, standing}
 use Rattle.tree.specs.Seen.{seen_index, index_boxes}
 use Rattle.catalogue.specs.declared.catalogue.Catalogue.{Catalogue}
-use Rattle.catalogue.specs.declared.catalogue.Catalogue.TheVariants.{Void, Open}
+use Rattle.tree.specs.declared.index.Index.{Index}
+
+-- a catalogue without an index is void
+abbrev pub seen_in : Option Index → Seen
+seen_in None = void
+seen_in (Some x) = seen_index x
 
 abbrev pub seen_of : Catalogue → Seen
-seen_of Void = void
-seen_of (Open x) = seen_index x
+seen_of c = seen_in c.index
 
 -- how many boxes its table was made for; a void one has none
+abbrev pub boxes_in : Option Index → ℕ
+boxes_in None = 0
+boxes_in (Some x) = index_boxes x
+
 abbrev pub boxes_of : Catalogue → ℕ
-boxes_of Void = 0
-boxes_of (Open x) = index_boxes x
+boxes_of c = boxes_in c.index
 
 -- the tree that is seen
 abbrev pub seen_tree : Seen → Tree

@@ -23,9 +23,8 @@ impl Catalogue {
     pub fn start(plan: &[u8], capacity: u32, table: Table) -> Catalogue
         ensures { Started plan.now capacity (table_boxes table) result }
     {
-        match Index::start(plan, capacity, table) {
-            Ok(index) => Catalogue::Open(index),
-            Err(_) => Catalogue::Void,
+        Catalogue {
+            index: Index::start(plan, capacity, table).ok(),
         }
     }
 
@@ -35,10 +34,8 @@ impl Catalogue {
         ensures runs { RunsOn self.old self.new (enters number letters.now) (refusal_of result) }
         ensures full { AtCapacity self.old number letters.now (refusal_of result) }
     {
-        match self {
-            Catalogue::Void => Err(Refusal::State(StateFault::Void)),
-            Catalogue::Open(index) => index.enter(number, letters),
-        }
+        let index = self.index.as_mut().ok_or(StateFault::Void)?;
+        index.enter(number, letters)
     }
 
     // Withdraws a clip, or is refused, and then nothing changes. The worklist comes back as zeros on every way out.
@@ -48,9 +45,7 @@ impl Catalogue {
         ensures wiped { worklist.new ≡ replicate (length worklist.old) 0 }
     {
         let guard = Wiped { words: worklist };
-        match self {
-            Catalogue::Void => Err(Refusal::State(StateFault::Void)),
-            Catalogue::Open(index) => index.withdraw(number, guard.words),
-        }
+        let index = self.index.as_mut().ok_or(StateFault::Void)?;
+        index.withdraw(number, guard.words)
     }
 }

@@ -6,20 +6,11 @@ pub struct Wiped<'a> {
     pub(crate) words: &'a mut [u64],
 }
 
-// Makes every word 0.
-fn wipe(words: &mut [u64])
-    ensures { words.new ≡ replicate (length words.old) 0 }
-{
-    for word in words.iter_mut() {
-        *word = 0;
-    }
-}
-
 impl Drop for Wiped<'_> {
     fn drop(self)
         ensures { self.exit.0.now ≡ replicate (length self.entry.words.now) 0 }
     {
-        wipe(self.words);
+        self.words.fill(0);
         let Wiped { words: _ } = self;
     }
 }

@@ -22,6 +22,7 @@ fn enter_rows(index: &mut Index, file: &[u8], n: usize)
     requires told { of_load (plan_of index.old) index.old.capacity (rows_in (tree_in index.old)) file.now ≡ None }
     ensures { Loaded index.old index.new file.now n }
 {
+    // By place: an iterator over the rows would hold the plan of the index that each row is entered into.
     for i in 0..n {
         if let Some(clip) = row_at(index.plan(), file, i) {
             let d = index.plan().len();
@@ -55,9 +56,7 @@ impl Catalogue {
         ensures rows { IfOk result (λ n. n ≡ length (loaded_rows (seen_of self.old) file.now)) }
         ensures saves { OnOk result (SavesBack (seen_of self.new) file.now) }
     {
-        match self {
-            Catalogue::Void => Err(Refusal::State(StateFault::Void)),
-            Catalogue::Open(index) => load_file(index, file),
-        }
+        let index = self.index.as_mut().ok_or(StateFault::Void)?;
+        load_file(index, file)
     }
 }

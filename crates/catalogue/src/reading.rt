@@ -19,22 +19,14 @@ use tree::Index;
 // The most clips that a catalogue lists.
 const MOST: usize = 4096;
 
-const BLANK: StoredClip = StoredClip {
-    number: 0,
-    letters: [0; 10],
-};
-
 // Writes the file of an index.
 fn save_index(index: &Index, output: &mut [u8]) -> Result<usize, Refusal>
     ensures told { refusal_of result ≡ of_save (length (saved (plan_of index.now) (rows_in (tree_in index.now)))) (length output.old) }
     ensures bytes { SavedAs (seen_index index.now) output.old output.new result }
 {
-    let mut clips = [BLANK; MOST];
+    let mut clips = [StoredClip::default(); MOST];
     let n = index.rising(&mut clips).unwrap_or(0);
-    match write_file(index.plan(), &clips[0..n], output) {
-        Some(bytes) => Ok(bytes),
-        None => Err(Refusal::State(StateFault::Output)),
-    }
+    write_file(index.plan(), &clips[0..n], output).ok_or(Refusal::State(StateFault::Output))
 }
 
 // Counts the clips of an index.
@@ -42,15 +34,10 @@ fn count_index(index: &Index, count: &mut Count) -> Result<(), Refusal>
     ensures told { refusal_of result ≡ of_count (rows_in (tree_in index.now)) }
     ensures numbers { CountedAs (seen_index index.now) count.old count.new result }
 {
-    let mut clips = [BLANK; MOST];
+    let mut clips = [StoredClip::default(); MOST];
     let n = index.clips(&mut clips).unwrap_or(0);
-    match Count::of_described(index.plan(), &clips[0..n]) {
-        Some(made) => {
-            *count = made;
-            Ok(())
-        }
-        None => Err(Refusal::State(StateFault::Empty)),
-    }
+    *count = Count::of(index.plan(), &clips[0..n]).ok_or(StateFault::Empty)?;
+    Ok(())
 }
 
 impl Catalogue {
@@ -60,10 +47,8 @@ impl Catalogue {
         ensures bytes { SavedAs (seen_of self.now) output.old output.new result }
         ensures loads { LoadsBack self.now }
     {
-        match self {
-            Catalogue::Void => Err(Refusal::State(StateFault::Void)),
-            Catalogue::Open(index) => save_index(index, output),
-        }
+        let index = self.index.as_ref().ok_or(StateFault::Void)?;
+        save_index(index, output)
     }
 
     // Sets the count to that of the listed clips. On a refusal the count stays.
@@ -71,9 +56,7 @@ impl Catalogue {
         ensures told { refusal_of result ≡ count_told (seen_of self.now) }
         ensures numbers { CountedAs (seen_of self.now) count.old count.new result }
     {
-        match self {
-            Catalogue::Void => Err(Refusal::State(StateFault::Void)),
-            Catalogue::Open(index) => count_index(index, count),
-        }
+        let index = self.index.as_ref().ok_or(StateFault::Void)?;
+        count_index(index, count)
     }
 }

@@ -2,7 +2,7 @@
 ghost use Rattle.std.specs.Prelude.{◌≡◌, min, length, take, replicate};
 ghost use Rattle.catalogue.specs.Replays.{call_of, calls_of, numbered_all, Replayed, RunsAll};
 ghost use Rattle.catalogue.specs.Runs.{Does};
-ghost use Rattle.refusals.specs.Refused.{refusal_of, numbered};
+ghost use Rattle.refusals.specs.Refused.{numbered};
 ghost use Rattle.std.specs.Option.{option_map};
 
 use crate::call::Call;
@@ -10,25 +10,15 @@ use crate::catalogue::Catalogue;
 use crate::guard::Wiped;
 use refusals::Refusal;
 
-// The refusal of an answer, where it is one.
-fn refusal_in<T: Drop>(answer: Result<T, Refusal>) -> Option<Refusal>
-    ensures { option_map numbered result ≡ refusal_of answer }
-{
-    match answer {
-        Ok(_) => None,
-        Err(refusal) => Some(refusal),
-    }
-}
-
 impl Catalogue {
     // Makes one call.
     fn make(&mut self, call: &Call, worklist: &mut [u64]) -> Option<Refusal>
         ensures { Does self.old self.new (call_of (length worklist.old) call.now) (option_map numbered result) }
     {
         match call {
-            Call::Enter { number, letters } => refusal_in(self.enter(*number, letters)),
-            Call::Withdraw { number } => refusal_in(self.withdraw(*number, worklist)),
-            Call::Load { file } => refusal_in(self.load(file)),
+            Call::Enter { number, letters } => self.enter(*number, letters).err(),
+            Call::Withdraw { number } => self.withdraw(*number, worklist).err(),
+            Call::Load { file } => self.load(file).err(),
         }
     }
 
@@ -47,9 +37,9 @@ impl Catalogue {
     {
         let guard = Wiped { words: worklist };
         let n = calls.len().min(answers.len());
-        for i in 0..n {
-            let answer = self.make(&calls[i], guard.words);
-            answers[i] = answer;
+        // The answers by index: a zip with iter_mut leaves the proof without the written values.
+        for (i, call) in calls[0..n].iter().enumerate() {
+            answers[i] = self.make(call, guard.words);
         }
         n
     }

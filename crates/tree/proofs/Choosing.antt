@@ -1,14 +1,12 @@
 -- Laws of the choice of an entry.
-use Rattle.std.proofs.Common.{◌≡◌, ℕ, zero, suc, ◌+◌, ◌-◌, ◌<◌, Bool, true, false, cond, List, [], ◌∷◌, ◌++◌, length, get_or, sym, refl, ap, ◌∙◌, ap₂, add-one, arith}
+use Rattle.std.proofs.Common.{◌≡◌, ℕ, zero, suc, ◌+◌, ◌-◌, ◌<◌, Bool, true, false, cond, List, [], ◌∷◌, map, length, get_or, take, sum_by, refl, ap, ◌∙◌, arith}
+use Rattle.std.proofs.lemmas.List.Sums.{sum_by-cons}
 use Rattle.space.specs.Boxes.{area, common, join, point}
 use Rattle.rules.specs.Choice.{Score, less, first_least, commons, commons_but, growth}
 
-pub commons_append : (b : List ℕ) (xs ys : List (List ℕ)) → commons b (xs ++ ys) ≡ commons b xs + commons b ys
-commons_append b [] ys = omega arith
-commons_append b (c ∷ xs) ys = omega (arith, commons_append b xs ys)
-
-pub commons_push : (b c : List ℕ) (xs : List (List ℕ)) → commons b (xs ++ c ∷ []) ≡ commons b xs + common b c
-commons_push b c xs = omega (arith, commons_append b xs (c ∷ []))
+pub commons_summed : (d : ℕ) (b : List ℕ) (bs : List (List ℕ)) → sum_by (λ c. common b (take d c)) bs ≡ commons b (map (take d) bs)
+commons_summed d b [] = refl
+commons_summed d b (c ∷ bs) = sum_by-cons (λ c. common b (take d c)) c bs ∙ ap (λ x. common b (take d c) + x) (commons_summed d b bs)
 
 commons_all : (b : List ℕ) (bs : List (List ℕ)) (p : ℕ) → p < length bs → commons_but p b bs + common b (get_or bs p []) ≡ commons b bs
 commons_all b [] p l = absurd (omega arith)
@@ -37,14 +35,3 @@ cond_one false n = refl
 
 pub least_first : (score : ℕ → Score) → first_least score 1 ≡ 0
 least_first score = cond_one (less (score 0) (score 0)) 0
-
-module _ (score : ℕ → Score) (n p : ℕ) (s b : Score) (is : p ≡ first_least score n) (at : b ≡ score p) (es : s ≡ score n) where
-  least_is : (t : Bool) → less s b ≡ t → first_least score (n + 1) ≡ cond t n p
-  least_is t e =
-      ap (first_least score) (add-one n) ∙ ap (λ t. cond t n (first_least score n)) (ap₂ less (sym es) (ap score (sym is) ∙ sym at) ∙ e) ∙ ap (cond t n) (sym is)
-
-  pub least_takes : less s b ≡ true → n ≡ first_least score (n + 1)
-  least_takes e = sym (least_is true e)
-
-  pub least_keeps : less s b ≡ false → p ≡ first_least score (n + 1)
-  least_keeps e = sym (least_is false e)

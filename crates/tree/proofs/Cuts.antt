@@ -1,11 +1,9 @@
 -- Boxes in ten sets, of which the first d count.
-use Rattle.std.proofs.Common.{◌≡◌, ℕ, zero, suc, ◌+◌, ◌^◌, ◌<◌, ◌≤◌, true, ◌&&◌, eqb, leb, List, [], ◌∷◌, ◌++◌, map, length, get_or, take, drop, replicate, IfSome, Some, None, Option, unwrap_or, sym, refl, ap, ◌∙◌, arith, lit<}
+use Rattle.std.proofs.Common.{◌≡◌, ℕ, zero, suc, ◌^◌, ◌≤◌, List, [], ◌∷◌, map, take, replicate, IfSome, Some, None, Option, unwrap_or, fold, refl, ap, ◌∙◌, arith, lit<}
 use native.Mathlib.Nat.{pow-le-pow_right}
 use lib.Bits.{bit_or}
-use Rattle.std.proofs.lemmas.List.{drop_more, drop_all, take_all, take-replicate, append-nil, take-map}
-use Rattle.std.proofs.lemmas.Bool.{le-leb, eq-eqb}
-use Rattle.space.specs.Boxes.{area, common, join, joined, point, only, around, area_of, common_of, given, filled}
-use Rattle.space.proofs.Arounds.{length_point}
+use Rattle.std.proofs.lemmas.List.{take-replicate, take-map}
+use Rattle.space.specs.Boxes.{join, joined, point, only, around}
 
 pub take_join : (d : ℕ) (a b : List ℕ) → take d (join a b) ≡ join (take d a) (take d b)
 take_join zero a b = refl
@@ -23,27 +21,12 @@ take_around d bs l = take_joined d (replicate 10 0) bs ∙ ap (λ x. joined x (m
 pub take_point : (d : ℕ) (v : List ℕ) → take d (point v) ≡ point (take d v)
 take_point d v = take-map only d v
 
--- one more box of a smallest box that is made from the left
-pub joined_step : (r all : List ℕ) (bs : List (List ℕ)) (i : ℕ) → i < length bs → joined r (drop i bs) ≡ all → joined (join r (get_or bs i [])) (drop (i + 1) bs) ≡ all
-joined_step r all bs i l e = ap (joined r) (sym (drop_more bs i [] l)) ∙ e
+-- a smallest box is made from the left
+pub joined_folded : (r : List ℕ) (bs : List (List ℕ)) → fold join r bs ≡ joined r bs
+joined_folded r [] = refl
+joined_folded r (b ∷ bs) = joined_folded (join r b) bs
 
-pub joined_end : (r all : List ℕ) (bs : List (List ℕ)) (i : ℕ) → length bs ≤ i → joined r (drop i bs) ≡ all → r ≡ all
-joined_end r all bs i l e = ap (joined r) (sym (drop_all i bs l)) ∙ e
-
--- the area of up to ten sets, where none stands for that of no sets
-dimensions_some : (n : ℕ) → suc n ≤ 10 → (leb 1 (suc n) && leb (suc n) 10) ≡ true
-dimensions_some n l = ap (λ t. leb 1 (suc n) && t) (le-leb (suc n) 10 l) ∙ ap (λ t. t && true) (le-leb 1 (suc n) (omega arith))
-
-pub area_or : (b : List ℕ) → length b ≤ 10 → unwrap_or (area_of b) 1 ≡ area b
-area_or [] l = refl
-area_or (m ∷ b) l = ap (λ t. unwrap_or (given t (area (m ∷ b))) 1) (dimensions_some (length b) l)
-
-pub common_or : (a b : List ℕ) → length a ≤ 10 → length a ≡ length b → unwrap_or (common_of a b) 1 ≡ common a b
-common_or [] b l e = refl
-common_or (m ∷ a) b l e =
-    ap (λ t. unwrap_or (given (t && eqb (length (m ∷ a)) (length b)) (common (m ∷ a) b)) 1) (dimensions_some (length a) l)
-    ∙ ap (λ t. unwrap_or (given t (common (m ∷ a) b)) 1) (eq-eqb (length (m ∷ a)) (length b) e)
-
+-- areas fit
 pub power_small : (r i : ℕ) → r ≤ 64 ^ i → i ≤ 10 → r ≤ 2 ^ 60
 power_small r i p l = let up : 64 ^ i ≤ 64 ^ 10 = pow-le-pow_right (lit< tt) l in omega arith
 
@@ -51,10 +34,3 @@ power_small r i p l = let up : 64 ^ i ≤ 64 ^ 10 = pow-le-pow_right (lit< tt) l
 pub bounded_or : (x : Option ℕ) (n r : ℕ) → r ≡ unwrap_or x 1 → IfSome x (λ y. y ≤ 64 ^ n) → n ≤ 10 → r ≤ 2 ^ 60
 bounded_or None n r e b l = omega arith
 bounded_or (Some y) n r e b l = let p = power_small y n b l in omega arith
-
--- ten letters written over ten sets
-pub filled_point : (v s : List ℕ) → length v ≡ length s → filled (point v) s ≡ point v
-filled_point v s e =
-    let n : length (point v) ≡ length s = length_point v ∙ e in
-    ap (λ x. x ++ drop (length (point v)) s) (take_all (length s) (point v) (omega arith))
-    ∙ ap (λ x. point v ++ x) (drop_all (length (point v)) s (omega arith)) ∙ append-nil (point v)

@@ -3,6 +3,7 @@ pub mod ReadNodes
 pub mod Cuts
 pub mod Parts
 pub mod Choosing
+pub mod Least
 pub mod Frame
 pub mod Levels
 pub mod Writes
@@ -27,4 +28,5 @@ pub mod Fitting
 pub mod Starts
 pub mod Changes
 pub mod Wholes
+pub mod Sorts
 pub mod Listings

@@ -1,28 +1,22 @@
 -- The clips of a tree written to a list.
-use Rattle.std.proofs.Common.{◌≡◌, ℕ, zero, suc, ◌+◌, ◌-◌, ◌*◌, ◌/◌, ◌%◌, ◌^◌, ◌<◌, ◌≤◌, Bool, true, false, ltb, leb, List, [], ◌∷◌, ◌++◌, map, length, get_or, take, drop, set, replicate, Some, None, sym, refl, ap, ◌∙◌, subst, ap₂, add-one, arith, length-set}
+use Rattle.std.proofs.Common.{◌≡◌, ℕ, zero, suc, ◌+◌, ◌-◌, ◌<◌, ◌≤◌, List, [], ◌∷◌, ◌++◌, length, get_or, take, drop, set, Some, sym, refl, ap, ◌∙◌, subst, add-one, arith, length-set}
 use Rattle.std.specs.List.{flat_map}
-use Rattle.std.proofs.lemmas.List.{append-nil, take_more, take_more_set, drop_more, take_all, drop-drop, drop-set-lt, flat_map_more, length-map, length-append, length_push, length-take-le, append_assoc, get_or_at, drop_all, map_more, take_at, drop_at, get_or_default, get_or_past}
-use Rattle.std.proofs.lemmas.Bool.{le-leb, lt-leb, leb-true}
+use Rattle.std.proofs.lemmas.List.{append-nil, take_more, take_more_set, take_all, drop-drop, drop-set-lt, flat_map_more, length-map}
+use Rattle.std.proofs.lemmas.Bool.{le-leb}
 use Rattle.space.specs.Boxes.{given}
 use Rattle.space.specs.Row.{Row, stored_row, stored_rows}
 use Rattle.space.specs.declared.clip.StoredClip.{StoredClip}
-use Rattle.ranked.specs.Rank.{ranked}
-use Rattle.ranked.proofs.Ranks.{length_ranked}
-use Rattle.rules.specs.Finds.{Once}
-use Rattle.rules.specs.Rows.{rising}
 use Rattle.rules.specs.Tree.{rows_in}
-use Rattle.rules.proofs.Risings.{keys_rise}
 use Rattle.tree.specs.declared.index.Index.{Index}
 use Rattle.tree.specs.declared.node.NodeEntry.{NodeEntry}
 use Rattle.tree.specs.declared.node.Node.{Node}
-use Rattle.tree.specs.Nodes.{no_entry, no_clip, node, inside, spot, clip_in, place_in, entry_of, total}
+use Rattle.tree.specs.Nodes.{no_entry, node, inside, spot, clip_in, place_in, entry_of, total}
 use Rattle.tree.specs.Leaving.{clips_in, Within}
-use Rattle.tree.specs.Listing.{Copied, Listed, keys_from, clip_of, Ordered}
+use Rattle.tree.specs.Listing.{Copied, Listed}
 use Rattle.tree.specs.Seen.{plan_of, tree_in}
-use Rattle.tree.proofs.Lists.{map_map}
 use Rattle.tree.proofs.SetsAside.{clips_up, total_more, total_room, length_joined_total, sound_within}
 use Rattle.tree.proofs.Withdraws.{clips_rows}
-use Rattle.tree.proofs.Wholes.{whole_of, few}
+use Rattle.tree.proofs.Wholes.{whole_of}
 
 -- lists that agree from a place on agree from any later one
 drop_later : {X : Type 0} (m k : ℕ) (xs ys : List X) → m ≤ k → drop m xs ≡ drop m ys → drop k xs ≡ drop k ys
@@ -120,93 +114,3 @@ module _ (x : Index) where
         count = ap Some many ∙ sym (ap (λ b. given b (length rows)) (le-leb (length rows) (length A) room));
         front = record { clips = ap (stored_rows (length (plan_of x))) p.front ∙ root_rows; rest = p.rest };
       }
-
-pub listed_none : (x : Index) (rows : List Row) (A : List StoredClip) → length A < x.clips → Listed x rows A A None
-listed_none x rows A l = record {
-  count = sym (ap (λ b. given b (length (rows_in (tree_in x)))) (lt-leb (length (rows_in (tree_in x))) (length A) (omega (arith, (whole_of x).count))));
-  front = refl;
-}
-
--- ---- keys
-pub keys_more : (C : List StoredClip) (K : List ℕ) (i w : ℕ) (d : StoredClip) → i < length K → i < length C → w ≡ (get_or C i d).number * 2 ^ 32 + i
-    → take i K ++ keys_from i (drop i C) ≡ keys_from 0 C → take (i + 1) (set K i w) ++ keys_from (i + 1) (drop (i + 1) C) ≡ keys_from 0 C
-unfolding keys_from
-keys_more C K i w d l m is inv =
-    ap (λ x. x ++ keys_from (i + 1) (drop (i + 1) C)) (take_more_set K i w l) ∙ append_assoc (take i K) (w ∷ []) (keys_from (i + 1) (drop (i + 1) C))
-    ∙ ap (λ x. take i K ++ x ∷ keys_from (i + 1) (drop (i + 1) C)) is ∙ ap (λ x. take i K ++ keys_from i x) (sym (drop_more C i d m)) ∙ inv
-
-pub keys_end : (C : List StoredClip) (K : List ℕ) (i : ℕ) → length K ≤ i → length C ≤ i → take i K ++ keys_from i (drop i C) ≡ keys_from 0 C → K ≡ keys_from 0 C
-unfolding keys_from
-keys_end C K i l m inv = sym (append-nil K) ∙ ap (λ x. x ++ []) (sym (take_all i K l)) ∙ ap (λ x. take i K ++ keys_from i x) (sym (drop_all i C m)) ∙ inv
-
-pub clip_there : (C : List StoredClip) (key : ℕ) (d : StoredClip) (letters : List ℕ) → key % 2 ^ 32 < length C → letters ≡ (get_or C (key % 2 ^ 32) d).letters
-    → ◌≡◌ {A = StoredClip} (record { number = key / 2 ^ 32; letters = letters }) (clip_of C key)
-unfolding clip_of
-clip_there C key d letters l is = ap (λ x. record { number = key / 2 ^ 32; letters = x }) (is ∙ ap (λ c. c.letters) (get_or_default C (key % 2 ^ 32) d no_clip l))
-
-pub clip_none : (C : List StoredClip) (key : ℕ) (letters : List ℕ) → length C ≤ key % 2 ^ 32 → letters ≡ replicate 10 0 → ◌≡◌ {A = StoredClip} (record { number = key / 2 ^ 32; letters = letters }) (clip_of C key)
-unfolding clip_of
-clip_none C key letters l is = ap (λ x. record { number = key / 2 ^ 32; letters = x }) (is ∙ ap (λ c. c.letters) (sym (get_or_past C (key % 2 ^ 32) no_clip l)))
-
-pub keyed_more : {X Y : Type 0} (f : X → Y) (keys : List X) (out : List Y) (i : ℕ) (k : X) (y : Y) → i < length out → i < length keys → y ≡ f (get_or keys i k)
-    → take i out ≡ map f (take i keys) → take (i + 1) (set out i y) ≡ map f (take (i + 1) keys)
-keyed_more f keys out i k y l m is inv = take_more_set out i y l ∙ ap₂ (λ xs x. xs ++ x ∷ []) inv is ∙ sym (map_more f keys i k m)
-
-pub keyed_end : {X Y : Type 0} (f : X → Y) (keys : List X) (out : List Y) (i : ℕ) → length out ≤ i → length keys ≤ i → take i out ≡ map f (take i keys) → out ≡ map f keys
-keyed_end f keys out i l m inv = sym (take_all i out l) ∙ inv ∙ ap (map f) (take_all i keys m)
-
-length_keys : (i : ℕ) (C : List StoredClip) → length (keys_from i C) ≡ length C
-unfolding keys_from
-length_keys i [] = refl
-length_keys i (c ∷ cs) = ap suc (length_keys (i + 1) cs)
-
--- the keys of the clips S behind others give them again
-keyed_again : (P S : List StoredClip) → length (P ++ S) ≤ 2 ^ 32 → map (clip_of (P ++ S)) (keys_from (length P) S) ≡ S
-unfolding keys_from clip_of
-keyed_again P [] small = refl
-keyed_again P (c ∷ cs) small =
-    let i = length P in
-    let lt : length P < 2 ^ 32 = omega (arith, length-append P (c ∷ cs)) in
-    let a : (c.number * 2 ^ 32 + length P) / 2 ^ 32 ≡ c.number = omega arith in
-    let b : (c.number * 2 ^ 32 + length P) % 2 ^ 32 ≡ length P = omega arith in
-    let l : get_or (P ++ c ∷ cs) ((c.number * 2 ^ 32 + length P) % 2 ^ 32) no_clip ≡ c = ap (λ k. get_or (P ++ c ∷ cs) k no_clip) b ∙ get_or_at P c cs no_clip (length P) refl in
-    let first : clip_of (P ++ c ∷ cs) (c.number * 2 ^ 32 + length P) ≡ c = ap₂ (λ x (y : StoredClip). record { number = x; letters = y.letters }) a l in
-    let e : P ++ c ∷ [] ++ cs ≡ P ++ c ∷ cs = append_assoc P (c ∷ []) cs in
-    let ih : map (clip_of (P ++ c ∷ [] ++ cs)) (keys_from (length (P ++ c ∷ [])) cs) ≡ cs = keyed_again (P ++ c ∷ []) cs (omega (arith, ap length e)) in
-    ap₂ (λ x xs. x ∷ xs) first (ap₂ (λ X k. map (clip_of X) (keys_from k cs)) (sym e) (sym (length_push P c)) ∙ ih)
-
--- and in rank give them in rising number
-pub ordered : (A : List StoredClip) (K : List ℕ) (B : List StoredClip) → length A ≤ 2 ^ 32 → K ≡ ranked ltb (keys_from 0 A) → B ≡ map (clip_of A) K → Ordered A B
-unfolding clip_of
-ordered A K B small sorted is = record {
-  long = ap length is ∙ length-map K (clip_of A) ∙ ap length sorted ∙ length_ranked ltb (keys_from 0 A) ∙ length_keys 0 A;
-  rows = λ d once.
-      let f : ℕ → Row = λ key. stored_row d (clip_of A key) in
-      let all : map f (keys_from 0 A) ≡ stored_rows d A = sym (map_map (stored_row d) (clip_of A) (keys_from 0 A)) ∙ ap (stored_rows d) (keyed_again [] A small) in
-      ap (stored_rows d) is ∙ map_map (stored_row d) (clip_of A) K ∙ ap (map f) sorted
-      ∙ keys_rise f (keys_from 0 A) (λ key. refl) (subst Once (sym all) once) ∙ ap rising all;
-}
-
--- ---- a list put in order
-given_some : (b : Bool) (k n : ℕ) → Some n ≡ given b k → (b ≡ true) × (n ≡ k)
-given_some true k n e = (refl, cc)
-given_some false k n e = let z : ◌≡◌ {A = ℕ} 0 1 = cc in absurd (omega arith)
-
--- how many clips were listed
-pub listed_count : (x : Index) (rows : List Row) (A B : List StoredClip) (n : ℕ) → Listed x rows A B (Some n) → (n ≤ length A) × (n ≤ 4096)
-listed_count x rows A B n p =
-    let k = length (rows_in (tree_in x)) in
-    let g = given_some (leb k (length A)) k n p.count in
-    (omega (arith, g.1, leb-true k (length A) g.0), omega (arith, g.1, few x, (whole_of x).count))
-
-pub listed_rising : (x : Index) (A B S : List StoredClip) (n : ℕ) → length B ≡ length A → Listed x (rows_in (tree_in x)) A B (Some n) → Ordered (take n B) S → Listed x (rising (rows_in (tree_in x))) A (S ++ drop n B) (Some n)
-listed_rising x A B S n long p o =
-    let d = length (plan_of x) in
-    let s : length S ≡ n = o.long ∙ length-take-le n B (omega (arith, (listed_count x (rows_in (tree_in x)) A B n p).0)) in
-    record {
-      count = p.count;
-      front = record {
-        clips = ap (stored_rows d) (take_at S (drop n B) n s) ∙ o.rows d (subst Once (sym p.front.clips) (whole_of x).once) ∙ ap rising p.front.clips;
-        rest = drop_at S (drop n B) n s ∙ p.front.rest;
-      };
-    }

@@ -1,8 +1,7 @@
 -- Clips in a worklist of words.
-use Rattle.std.proofs.Common.{◌≡◌, ℕ, zero, suc, ◌+◌, ◌-◌, ◌*◌, ◌/◌, ◌%◌, ◌^◌, ◌<◌, ◌≤◌, ltb, List, [], ◌∷◌, ◌++◌, map, length, get_or, take, drop, set, sym, refl, ap, ◌∙◌, subst, ap₂, ⊎_elim, pow-suc, add-one, arith, lit<, length-set, take-suc}
+use Rattle.std.proofs.Common.{◌≡◌, ℕ, zero, suc, ◌+◌, ◌-◌, ◌*◌, ◌/◌, ◌%◌, ◌^◌, ◌<◌, ◌≤◌, ltb, List, [], ◌∷◌, ◌++◌, map, length, get_or, take, drop, set, reverse, sym, refl, ap, ◌∙◌, subst, ap₂, pow-suc, arith, lit<, length-set, take-suc}
 use native.Mathlib.Nat.{pow-le-pow_right}
-use Rattle.std.proofs.lemmas.List.{drop_more, take_more_set, append_assoc, get_or-set_same, get_or-set_other, length-append, length-drop, length-take-le, take-append-le, take_all, get_or-append_right, get_or-drop, map_push}
-use Rattle.std.proofs.lemmas.Bool.{cases_lt}
+use Rattle.std.proofs.lemmas.List.{drop_more, take_more_set, append_assoc, get_or-set_same, get_or-set_other, length-append, length-drop, length-take-le, take-append-le, take_all, get_or_append_left, get_or-append_right, get_or-drop, get_or-reverse, get_or-take, get_or_default, length-reverse, map_push, take_at, drop_at}
 use Rattle.space.specs.declared.clip.StoredClip.{StoredClip}
 use Rattle.space.specs.Row.{Row, stored_row, stored_rows}
 use Rattle.ranked.specs.Rank.{ranked}
@@ -13,23 +12,40 @@ use Rattle.rules.proofs.Risings.{keys_rise}
 use Rattle.tree.specs.Leaving.{letters_of, clip_at, asides, clip_by, keyed, InOrder}
 use Rattle.tree.proofs.Lists.{map_map, map_same}
 
-pub pack_step : (w l k i j : ℕ) (ls : List ℕ) → i + 1 ≡ j → i < length ls → get_or ls i 0 ≡ l → l < 64 → letters_of k w ≡ drop j ls → letters_of (k + 1) (w * 64 + l) ≡ drop i ls
-pack_step w l k i j ls e lt is small inv =
-    let a : (w * 64 + l) % 64 ≡ l = omega arith in
-    let b : (w * 64 + l) / 64 ≡ w = omega arith in
-    ap (λ n. letters_of n (w * 64 + l)) (add-one k) ∙ ap₂ (λ x y. x ∷ letters_of k y) a b ∙ ap₂ (λ x xs. x ∷ xs) (sym is) (inv ∙ ap (λ n. drop n ls) (sym e)) ∙ sym (drop_more ls i 0 lt)
-
 pub unpack_step : (w i k j : ℕ) (r : List ℕ) (all : List ℕ) → k ≡ suc j → i < length r → take i r ++ letters_of k w ≡ all
     → take (i + 1) (set r i (w % 64)) ++ letters_of j (w / 64) ≡ all
 unpack_step w i k j r all e l inv =
     ap (λ x. x ++ letters_of j (w / 64)) (take_more_set r i (w % 64) l) ∙ append_assoc (take i r) (w % 64 ∷ []) (letters_of j (w / 64))
     ∙ ap (λ n. take i r ++ letters_of n w) (sym e) ∙ inv
 
-pub pack_small : (w l k : ℕ) → w < 64 ^ k → l < 64 → w * 64 + l < 64 ^ (k + 1)
-pack_small w l k p q = let e : 64 ^ (k + 1) ≡ 64 ^ k * 64 = ap (λ n. 64 ^ n) (add-one k) ∙ pow-suc 64 k in omega arith
+-- one letter more, from the last to the first: it is the one at n from behind
+module _ (ls : List ℕ) (n w l : ℕ) (ten : length ls ≡ 10) (small : (k : ℕ) → get_or ls k 0 < 64) (turn : (n < length (reverse ls)) × (l ≡ get_or (reverse ls) n l)) (inv : (w < 64 ^ n) × (letters_of n w ≡ drop (10 - n) ls)) where
+  before : n < 10
+  before = omega (arith, turn.0, length-reverse ls)
 
-pub pack_fits : (w l k : ℕ) → w < 64 ^ k → k ≤ 9 → l < 64 → w * 64 + l < 2 ^ 64
-pack_fits w l k p m q = let up : 64 ^ k ≤ 64 ^ 9 = pow-le-pow_right (lit< tt) m in omega arith
+  is : l ≡ get_or ls (9 - n) 0
+  is =
+      let i : length ls - 1 - n ≡ 9 - n = omega (arith, before) in
+      turn.1 ∙ get_or-reverse ls n l (omega (arith, before)) ∙ ap (λ k. get_or ls k l) i ∙ get_or_default ls (9 - n) l 0 (omega (arith, before))
+
+  below : l < 64
+  below = subst (λ x. x < 64) (sym is) (small (9 - n))
+
+  pub pack_fits : w * 64 + l < 2 ^ 64
+  pack_fits = let nine : n ≤ 9 = omega (arith, before) in let up : 64 ^ n ≤ 64 ^ 9 = pow-le-pow_right (lit< tt) nine in omega (arith, inv.0, below)
+
+  pub pack_more : (m : ℕ) → m ≡ n + 1 → (w * 64 + l < 64 ^ m) × (letters_of m (w * 64 + l) ≡ drop (10 - m) ls)
+  pack_more m e =
+      let here : 64 ^ suc n ≡ 64 ^ n * 64 = pow-suc 64 n in
+      let a : (w * 64 + l) % 64 ≡ l = omega (arith, below) in
+      let b : (w * 64 + l) / 64 ≡ w = omega (arith, below) in
+      let at : 9 - n + 1 ≡ 10 - n = omega (arith, before) in
+      let from : 9 - n ≡ 10 - m = omega (arith, before) in
+      let z : suc n ≡ m = omega arith in (
+        subst (λ k. w * 64 + l < 64 ^ k) z (omega (arith, below, inv.0)),
+        ap (λ k. letters_of k (w * 64 + l)) (sym z) ∙ ap₂ (λ x y. x ∷ letters_of n y) a b ∙ ap₂ (λ x xs. x ∷ xs) is (inv.1 ∙ ap (λ k. drop k ls) (sym at))
+            ∙ sym (drop_more ls (9 - n) 0 (omega (arith, before))) ∙ ap (λ k. drop k ls) from,
+      )
 
 -- words before the clip n stay, so do the clips
 asides_same : (V W : List ℕ) (n : ℕ) → length V ≡ length W → ((k : ℕ) → k < n → get_or V k 0 ≡ get_or W k 0) → ((k : ℕ) → k < n → get_or V (length V / 2 + k) 0 ≡ get_or W (length V / 2 + k) 0)
@@ -68,18 +84,20 @@ pub record Keys (W U : List ℕ) (n : ℕ) : Type 0 where
   pub keys : (k : ℕ) → k < n → get_or U k 0 ≡ get_or W k 0 % 2 ^ 32 * 2 ^ 32 + k
   pub rest : (k : ℕ) → n ≤ k → get_or U k 0 ≡ get_or W k 0
 
-pub keys_none : (W : List ℕ) → Keys W W 0
-keys_none W = record { long = refl; keys = λ k l. absurd (omega arith); rest = λ k l. refl }
+past : (S U : List ℕ) (n j : ℕ) → length S ≡ n → n ≤ j → get_or (S ++ drop n U) j 0 ≡ get_or U j 0
+past S U n j s h =
+    let z : n + (j - n) ≡ j = omega arith in
+    get_or-append_right S (drop n U) n j 0 s h ∙ get_or-drop n U (j - n) 0 ∙ ap (λ x. get_or U x 0) z
 
-pub keys_more : (W U : List ℕ) (n w : ℕ) → Keys W U n → n < length W → w ≡ get_or U n 0 % 2 ^ 32 * 2 ^ 32 + n → Keys W (set U n w) (n + 1)
-keys_more W U n w k l e = record {
-  long = length-set U n w ∙ k.long;
-  keys = λ j h. ⊎_elim (λ q. get_or-set_other U n j w 0 (λ e. omega arith) ∙ k.keys j q)
-      (λ q. let z : j ≡ n = omega arith in let here : n < length U = omega (arith, k.long) in
-      subst (λ x. get_or (set U n w) x 0 ≡ get_or W x 0 % 2 ^ 32 * 2 ^ 32 + x) (sym z)
-      (get_or-set_same U n w 0 here ∙ e ∙ ap (λ x. x % 2 ^ 32 * 2 ^ 32 + n) (k.rest n (omega arith)))) (cases_lt j n);
-  rest = λ j h. get_or-set_other U n j w 0 (λ e. omega arith) ∙ k.rest j (omega arith);
-}
+-- and W begins with those words
+keys_front : (W I : List ℕ) (n : ℕ) → Keys (take n W) I n → n ≤ length W → Keys W (I ++ drop n W) n
+keys_front W I n k l =
+    let long : length I ≡ n = k.long ∙ length-take-le n W l in
+    record {
+      long = length-append I (drop n W) ∙ omega (arith, length-drop n W);
+      keys = λ j h. get_or_append_left I (drop n W) 0 j (omega arith) ∙ k.keys j h ∙ ap (λ x. x % 2 ^ 32 * 2 ^ 32 + j) (get_or-take n W j 0 h);
+      rest = λ j h. past I W n j long h;
+    }
 
 -- the keys stand for the clips set aside
 keyed_is : (W U : List ℕ) (n : ℕ) → Keys W U n → 2 * n ≤ length W → n < 2 ^ 32 → (i : ℕ) → i ≤ n → keyed U i ≡ asides W i
@@ -97,9 +115,13 @@ keyed_is W U n k l small (suc i) h =
     ∙ ap₂ (λ xs x. xs ++ x ∷ []) ih (ap₂ (λ x y. record { number = x; letters = letters_of 10 y }) a c)
 
 -- and put in rank they give them in rising number
-pub in_order : (W U V : List ℕ) (n : ℕ) → Keys W U n → 2 * n ≤ length W → n < 2 ^ 32 → V ≡ ranked ltb (take n U) ++ drop n U → InOrder W V n
+pub in_order : (W I V : List ℕ) (n : ℕ) → Keys (take n W) I n → 2 * n ≤ length W → n < 2 ^ 32 → V ≡ ranked ltb I ++ drop n W → InOrder W V n
 unfolding clip_by
-in_order W U V n k l small is =
+in_order W I V n front l small made =
+    let U = I ++ drop n W in
+    let k = keys_front W I n front (omega arith) in
+    let at : length I ≡ n = front.long ∙ length-take-le n W (omega arith) in
+    let is : V ≡ ranked ltb (take n U) ++ drop n U = made ∙ ap₂ (λ x y. ranked ltb x ++ y) (sym (take_at I (drop n W) n at)) (sym (drop_at I (drop n W) n at)) in
     let S = ranked ltb (take n U) in
     let s : length (ranked ltb (take n U)) ≡ n = length_ranked ltb (take n U) ∙ length-take-le n U (omega (arith, k.long)) in
     let long : length V ≡ length U = ap length is ∙ length-append S (drop n U) ∙ omega (arith, length-drop n U, k.long) in
@@ -117,8 +139,3 @@ in_order W U V n k l small is =
           ap (stored_rows d) clips ∙ map_map (stored_row d) (clip_by U) S
           ∙ keys_rise f (take n U) (λ key. refl) (subst Once (sym all) once) ∙ ap rising all;
     }
-  where
-    past : (S U : List ℕ) (n j : ℕ) → length S ≡ n → n ≤ j → get_or (S ++ drop n U) j 0 ≡ get_or U j 0
-    past S U n j s h =
-        let z : n + (j - n) ≡ j = omega arith in
-        get_or-append_right S (drop n U) n j 0 s h ∙ get_or-drop n U (j - n) 0 ∙ ap (λ x. get_or U x 0) z

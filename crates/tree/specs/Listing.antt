@@ -1,15 +1,12 @@
 -- The clips of a tree written to a list.
-use Rattle.std.specs.Prelude.{◌≡◌, ℕ, ◌+◌, ◌*◌, ◌/◌, ◌%◌, ◌^◌, List, [], ◌∷◌, ◌++◌, length, take, drop, Option, MatchOption, nat_le, slice_index_or}
+use Rattle.std.specs.Prelude.{◌≡◌, ℕ, ◌+◌, List, ◌++◌, length, take, drop, Option, MatchOption, nat_le}
 use Rattle.space.specs.Boxes.{given}
 use Rattle.space.specs.Row.{Row, stored_rows}
 use Rattle.space.specs.declared.clip.StoredClip.{StoredClip}
-use Rattle.rules.specs.Finds.{Once}
-use Rattle.rules.specs.Rows.{rising}
 use Rattle.rules.specs.Tree.{rows_in}
 use Rattle.tree.specs.declared.index.Index.{Index}
 use Rattle.tree.specs.declared.node.NodeEntry.{NodeEntry}
 use Rattle.tree.specs.declared.node.Node.{Node}
-use Rattle.tree.specs.Nodes.{no_clip}
 use Rattle.tree.specs.Leaving.{clips_in}
 use Rattle.tree.specs.Seen.{plan_of, tree_in}
 
@@ -29,18 +26,3 @@ pub record Front (d : ℕ) (rows : List Row) (A B : List StoredClip) (n : ℕ) :
 pub record Listed (x : Index) (rows : List Row) (A B : List StoredClip) (r : Option ℕ) : Type 0 where
   pub count : r ≡ given (nat_le (length (rows_in (tree_in x))) (length A)) (length (rows_in (tree_in x)))
   pub front : MatchOption r (B ≡ A) (Front (length (plan_of x)) rows A B)
-
--- ---- in rising number
--- a key for each clip, of which the first stands at i: its number, and in the lower 32 bits where it stands
-unfoldable pub keys_from : ℕ → List StoredClip → List ℕ
-keys_from i [] = []
-keys_from i (c ∷ cs) = (c.number * 2 ^ 32 + i) ∷ keys_from (i + 1) cs
-
--- the clip of a key
-unfoldable pub clip_of : List StoredClip → ℕ → StoredClip
-clip_of clips key = record { number = key / 2 ^ 32; letters = (slice_index_or clips (key % 2 ^ 32) no_clip).letters }
-
--- the clips A have become B, in rising number, if no number stands twice
-pub record Ordered (A B : List StoredClip) : Type 0 where
-  pub long : length B ≡ length A
-  pub rows : (d : ℕ) → Once (stored_rows d A) → stored_rows d B ≡ rising (stored_rows d A)

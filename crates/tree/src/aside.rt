@@ -14,26 +14,24 @@ pub(crate) fn packed(letters: [u8; 10]) -> u64
     requires { (k : ℕ) → slice_index letters k < 64 }
     ensures { letters_of 10 result ≡ letters }
 {
-    let mut w = 0;
-    let mut i = 10;
-    while i > 0 {
-        i -= 1;
-        w = w * 64 + letters[i] as u64;
+    let mut word = 0;
+    for letter in letters.iter().rev() {
+        word = word * 64 + u64::from(*letter);
     }
-    w
+    word
 }
 
 // The ten letters of a word.
 pub(crate) fn unpacked(word: u64) -> [u8; 10]
     ensures { result ≡ letters_of 10 word }
 {
-    let mut r = [0; 10];
-    let mut w = word;
-    for i in 0..10 {
-        r[i] = (w % 64) as u8;
-        w /= 64;
+    let mut letters = [0; 10];
+    let mut rest = word;
+    for letter in letters.iter_mut() {
+        *letter = (rest % 64) as u8;
+        rest /= 64;
     }
-    r
+    letters
 }
 
 // Lays a clip in the worklist, behind n others.
@@ -44,7 +42,7 @@ pub(crate) fn lay_aside(words: &mut [u64], n: usize, clip: StoredClip)
     ensures words { length words.new ≡ length words.old }
 {
     let half = words.len() / 2;
-    words[n] = clip.number as u64;
+    words[n] = u64::from(clip.number);
     words[half + n] = packed(clip.letters);
 }
 
@@ -54,17 +52,10 @@ pub(crate) fn order_asides(words: &mut [u64], n: usize)
     requires room { 2 * n ≤ length words.old }
     ensures { InOrder words.old words.new n }
 {
-    for i in 0..n {
-        words[i] = words[i] % NUMBERS * NUMBERS + i as u64;
+    for (i, word) in words[0..n].iter_mut().enumerate() {
+        *word = *word % NUMBERS * NUMBERS + i as u64;
     }
     sort_words(&mut words[0..n]);
-}
-
-// The word at a place; 0 past the end.
-fn word_at(words: &[u64], place: usize) -> u64
-    ensures { result ≡ slice_index words.now place }
-{
-    if place < words.len() { words[place] } else { 0 }
 }
 
 // The clip of the key at k.
@@ -74,9 +65,8 @@ pub(crate) fn keyed_at(words: &[u64], k: usize) -> StoredClip
 {
     let key = words[k];
     let place = words.len() / 2 + (key % NUMBERS) as usize;
-    let letters = unpacked(word_at(words, place));
     StoredClip {
         number: (key / NUMBERS) as u32,
-        letters,
+        letters: unpacked(words.get(place).copied().unwrap_or(0)),
     }
 }

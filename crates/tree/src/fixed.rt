@@ -6,12 +6,11 @@ ghost use Rattle.space.specs.Boxes.{area, common, join, point, around};
 pub type Sets = [u64; 10];
 
 // The letters of either box.
-pub(crate) fn union_of(a: Sets, b: Sets) -> Sets
+pub(crate) fn union_of(mut a: Sets, b: Sets) -> Sets
     ensures { result ≡ join a b }
 {
-    let mut r = a;
-    space::join(&mut r, &b);
-    r
+    space::join(&mut a, &b);
+    a
 }
 
 // The number of vectors in a box. Of no dimensions there is one vector, of no letters.
@@ -37,19 +36,14 @@ pub(crate) fn common_of(a: &[u64], b: &[u64]) -> u64
 pub(crate) fn point_of(letters: [u8; 10]) -> Sets
     ensures { result ≡ point letters }
 {
-    let mut r = [0; 10];
-    space::point(&mut r, &letters);
-    r
+    let mut sets = [0; 10];
+    space::point(&mut sets, &letters);
+    sets
 }
 
 // The smallest box around some boxes.
 pub(crate) fn box_around(boxes: &[Sets]) -> Sets
     ensures { result ≡ around 10 boxes.now }
 {
-    let mut r = [0; 10];
-    for i in 0..boxes.len() {
-        let more = union_of(r, boxes[i]);
-        r = more;
-    }
-    r
+    boxes.iter().copied().fold([0; 10], union_of)
 }

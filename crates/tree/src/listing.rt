@@ -1,22 +1,15 @@
 // The clips of an index, written to a list of the caller's.
-ghost use Rattle.std.specs.Prelude.{◌≡◌, ◌+◌, ◌^◌, ◌≤◌, map, length};
+ghost use Rattle.std.specs.Prelude.{◌≡◌, ◌+◌, ◌≤◌, length};
 ghost use Rattle.rules.specs.Rows.{rising};
 ghost use Rattle.rules.specs.Tree.{boxes_in, rows_in};
 ghost use Rattle.tree.specs.Leaving.{clips_in, Within};
-ghost use Rattle.tree.specs.Listing.{Copied, Listed, Ordered, clip_of, keys_from};
+ghost use Rattle.tree.specs.Listing.{Copied, Listed};
 ghost use Rattle.tree.specs.Seen.{tree_in};
 
 use crate::index::Index;
 use crate::node::NodeEntry;
 use crate::nodes::Nodes;
-use ranked::sort_words;
 use space::StoredClip;
-
-// The most clips that an index lists.
-const MOST: usize = 4096;
-
-// How many numbers a clip can have: a key is one of them times this, and a place below it.
-const NUMBERS: u64 = 0x1_0000_0000;
 
 impl Nodes {
     // Copies the clips of the tree of an entry behind the n that are there, and says how many there are then.
@@ -42,71 +35,6 @@ impl Nodes {
         }
         many
     }
-}
-
-// Writes a key for each clip: its number, and in the lower 32 bits where it stands.
-fn write_keys(clips: &[StoredClip], keys: &mut [u64])
-    requires few { length clips.now ≤ 2 ^ 32 }
-    requires room { length keys.old ≡ length clips.now }
-    ensures { keys.new ≡ keys_from 0 clips.now }
-{
-    for i in 0..clips.len() {
-        let clip = clips[i];
-        keys[i] = clip.number as u64 * NUMBERS + i as u64;
-    }
-}
-
-// The clip of a key.
-fn clip_of(clips: &[StoredClip], key: u64) -> StoredClip
-    ensures { result ≡ clip_of clips.now key }
-{
-    let place = (key % NUMBERS) as usize;
-    let letters = if place < clips.len() {
-        clips[place].letters
-    } else {
-        [0; 10]
-    };
-    StoredClip {
-        number: (key / NUMBERS) as u32,
-        letters,
-    }
-}
-
-// Writes the clips of the keys, in the order of the keys.
-fn write_keyed(clips: &[StoredClip], keys: &[u64], out: &mut [StoredClip])
-    requires { length out.old ≡ length keys.now }
-    ensures { out.new ≡ map (clip_of clips.now) keys.now }
-{
-    for i in 0..keys.len() {
-        out[i] = clip_of(clips, keys[i]);
-    }
-}
-
-// Puts clips in rising number, with room for as many again and for their keys: the keys are sorted, and each then says which clip comes.
-fn order_within(clips: &mut [StoredClip], copy: &mut [StoredClip], keys: &mut [u64])
-    requires few { length clips.old ≤ 2 ^ 32 }
-    requires copy { length copy.old ≡ length clips.old }
-    requires keys { length keys.old ≡ length clips.old }
-    ensures { Ordered clips.old clips.new }
-{
-    copy.copy_from_slice(clips);
-    write_keys(copy, keys);
-    sort_words(keys);
-    write_keyed(copy, keys, clips);
-}
-
-// Puts as many clips as an index can list in rising number.
-fn order_clips(clips: &mut [StoredClip])
-    requires { length clips.old ≤ 4096 }
-    ensures { Ordered clips.old clips.new }
-{
-    let n = clips.len();
-    let mut copy = [StoredClip {
-        number: 0,
-        letters: [0; 10],
-    }; MOST];
-    let mut keys = [0; MOST];
-    order_within(clips, &mut copy[0..n], &mut keys[0..n]);
 }
 
 impl Index {
@@ -153,7 +81,7 @@ impl Index {
         ensures { Listed self.now (rising (rows_in (tree_in self.now))) out.old out.new result }
     {
         let n = self.clips(out)?;
-        order_clips(&mut out[0..n]);
+        out[0..n].sort_unstable_by_key(|c| c.number);
         Some(n)
     }
 }

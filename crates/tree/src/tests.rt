@@ -5,11 +5,6 @@ use std::alloc::Global;
 use std::process::Abort;
 use std::test::Fail;
 
-const BLANK: StoredClip = StoredClip {
-    number: 0,
-    letters: [0; 10],
-};
-
 const MIXED: [u32; 12] = [40, 7, 4294967295, 3, 65, 12, 1, 99, 28, 5, 1000, 64];
 
 const SORTED: [u32; 12] = [1, 3, 5, 7, 12, 28, 40, 64, 65, 99, 1000, 4294967295];
@@ -46,26 +41,26 @@ fn lists_every_clip(rt: HostRuntime) -> Result<(), Fail> {
     assert_eq!(rt; index.capacity(), 128);
     assert_eq!(rt; index.len(), 12);
     assert_eq!(rt; index.boxes(), 3);
-    let mut out = [BLANK; 13];
+    let mut out = [StoredClip::default(); 13];
     assert_eq!(rt; index.clips(&mut out), Some(12));
     for number in MIXED {
         assert!(rt; out.contains(&clip(number)));
     }
-    assert_eq!(rt; out[12], BLANK);
+    assert_eq!(rt; out[12], StoredClip::default());
     Ok(())
 }
 
 #[test]
 fn lists_in_rising_number(rt: HostRuntime) -> Result<(), Fail> {
     let mut index = index_of(&rt, rt.alloc(), &MIXED)?;
-    let mut out = [BLANK; 13];
+    let mut out = [StoredClip::default(); 13];
     assert_eq!(rt; index.rising(&mut out), Some(12));
-    for i in 0..12 {
-        assert_eq!(rt; out[i], clip(SORTED[i]));
+    for (found, number) in out.iter().zip(&SORTED) {
+        assert_eq!(rt; *found, clip(*number));
     }
-    assert_eq!(rt; out[12], BLANK);
+    assert_eq!(rt; out[12], StoredClip::default());
     withdraw_all(&rt, &mut index, &MIXED[..9], &mut [0; 24]);
-    let mut rest = [BLANK; 3];
+    let mut rest = [StoredClip::default(); 3];
     assert_eq!(rt; index.rising(&mut rest), Some(3));
     assert_eq!(rt; rest, [clip(5), clip(64), clip(1000)]);
     Ok(())
@@ -74,10 +69,10 @@ fn lists_in_rising_number(rt: HostRuntime) -> Result<(), Fail> {
 #[test]
 fn short_lists_stay(rt: HostRuntime) -> Result<(), Fail> {
     let index = index_of(&rt, rt.alloc(), &MIXED)?;
-    let mut short = [BLANK; 11];
+    let mut short = [StoredClip::default(); 11];
     assert_eq!(rt; index.clips(&mut short), None);
     assert_eq!(rt; index.rising(&mut short), None);
-    assert_eq!(rt; short, [BLANK; 11]);
+    assert_eq!(rt; short, [StoredClip::default(); 11]);
     Ok(())
 }
 

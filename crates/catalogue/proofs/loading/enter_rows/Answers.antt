@@ -1,7 +1,7 @@
-use Rattle.std.proofs.Common.{◌≡◌, ◌+◌, length, sym, ap, ◌∙◌, subst}
+use Rattle.std.proofs.Common.{◌+◌, length, sym, ap, subst}
 use Rattle.refusals.specs.Refused.{refusal_of}
 use Rattle.catalogue.specs.Loads.{Loaded}
-use Rattle.catalogue.proofs.Enterings.{load_start, load_none, load_row}
+use Rattle.catalogue.proofs.Enterings.{load_none, load_row}
 use Rattle.catalogue.proofs.loading.enter_rows.Goals as goal
 use Rattle.catalogue.proofs.loading.enter_rows.Goals.{in-Some, in_default}
 

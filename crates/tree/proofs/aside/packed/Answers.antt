@@ -1,26 +1,26 @@
-use Rattle.std.proofs.Common.{◌≡◌, ◌+◌, ◌-◌, ◌*◌, ◌^◌, ◌<◌, length, get_or, sym, refl, ap, ◌∙◌, subst, arith, rules}
-use Rattle.std.proofs.lemmas.List.{drop_all}
-use Rattle.tree.specs.Leaving.{letters_of}
-use Rattle.tree.proofs.Packs.{pack_step, pack_small, pack_fits}
+use Rattle.std.proofs.Common.{◌≡◌, length, arith, rules}
+use Rattle.std.proofs.lemmas.Iterator.Adapters.{YieldsList-from_rev_slice}
+use Rattle.std.proofs.lemmas.Iterator.Consumers.{YieldsList-turn}
+use Rattle.std.proofs.lemmas.List.{length_push}
+use Rattle.tree.proofs.Packs.{pack_fits, pack_more}
 use Rattle.tree.proofs.aside.packed.Goals as goal
 
-pub loop-i-init : goal.loop-i-init
-loop-i-init c =
+pub overflow_mul-word : goal.overflow_mul-word
+overflow_mul-word c =
     let ten : length c.args.letters ≡ 10 = search rules in
-    (omega arith, omega arith, sym (drop_all 10 c.args.letters (omega arith)))
+    let turn = YieldsList-turn (YieldsList-from_rev_slice c.args.letters cc) c.loop-letter.yielded _ c.loop-letter.yielded_by _ _ c.in-Some.letter c.in-Some.is c.next.ensures.steps in
+    let f = pack_fits c.args.letters (length c.loop-letter.yielded) c.loop-letter.word _ ten c.requires turn c.loop-letter.invariant in
+    omega arith
 
-pub overflow_mul-w : goal.overflow_mul-w
-overflow_mul-w c = let f = pack_fits c.loop-i.w 0 (10 - c.loop-i.i) c.loop-i.invariant.1 (omega arith) (omega arith) in omega arith
-
-pub overflow_add-w : goal.overflow_add-w
-overflow_add-w c = let f = pack_fits c.loop-i.w (get_or c.args.letters (c.loop-i.i - 1) 0) (10 - c.loop-i.i) c.loop-i.invariant.1 (omega arith) (c.requires (c.loop-i.i - 1)) in omega arith
-
-pub loop-i-preserved : goal.loop-i-preserved
-loop-i-preserved c =
+pub overflow_add-word : goal.overflow_add-word
+overflow_add-word c =
     let ten : length c.args.letters ≡ 10 = search rules in
-    let l = get_or c.args.letters (c.loop-i.i - 1) 0 in
-    let e : 10 - (c.loop-i.i - 1) ≡ 10 - c.loop-i.i + 1 = omega arith in (
-      omega arith,
-      subst (λ n. c.loop-i.w * 64 + l < 64 ^ n) (sym e) (pack_small c.loop-i.w l (10 - c.loop-i.i) c.loop-i.invariant.1 (c.requires (c.loop-i.i - 1))),
-      ap (λ n. letters_of n (c.loop-i.w * 64 + l)) e ∙ pack_step c.loop-i.w l (10 - c.loop-i.i) (c.loop-i.i - 1) c.loop-i.i c.args.letters (omega arith) (omega arith) refl (c.requires (c.loop-i.i - 1)) c.loop-i.invariant.2,
-    )
+    let turn = YieldsList-turn (YieldsList-from_rev_slice c.args.letters cc) c.loop-letter.yielded _ c.loop-letter.yielded_by _ _ c.in-Some.letter c.in-Some.is c.next.ensures.steps in
+    let f = pack_fits c.args.letters (length c.loop-letter.yielded) c.loop-letter.word _ ten c.requires turn c.loop-letter.invariant in
+    omega (arith, c.from.ensures)
+
+pub loop-letter-preserved : goal.loop-letter-preserved
+loop-letter-preserved c =
+    let ten : length c.args.letters ≡ 10 = search rules in
+    let turn = YieldsList-turn (YieldsList-from_rev_slice c.args.letters cc) c.loop-letter.yielded _ c.loop-letter.yielded_by _ _ c.in-Some.letter c.in-Some.is c.next.ensures.steps in
+    rw c.from.ensures (pack_more c.args.letters (length c.loop-letter.yielded) c.loop-letter.word _ ten c.requires turn c.loop-letter.invariant _ (length_push c.loop-letter.yielded c.in-Some.letter))

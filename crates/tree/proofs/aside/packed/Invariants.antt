@@ -1,9 +1,6 @@
-use Rattle.std.proofs.Common.{◌≡◌, ◌-◌, ◌^◌, ◌<◌, ◌≤◌, drop}
+use Rattle.std.proofs.Common.{◌≡◌, ◌-◌, ◌^◌, ◌<◌, length, drop}
 use Rattle.tree.specs.Leaving.{letters_of}
 use Rattle.tree.proofs.aside.packed.Given as goal
 
-abbrev pub invariant-loop-i : goal.invariant-loop-i
-invariant-loop-i l = (l.i ≤ 10) × (l.w < 64 ^ (10 - l.i)) × (letters_of (10 - l.i) l.w ≡ drop l.i l.letters)
-
-abbrev pub decreases-loop-i : goal.decreases-loop-i
-decreases-loop-i l = l.i
+abbrev pub invariant-loop-letter : goal.invariant-loop-letter
+invariant-loop-letter l = (l.word < 64 ^ length l.yielded) × (letters_of (length l.yielded) l.word ≡ drop (10 - length l.yielded) l.fn.letters)

@@ -1,34 +1,23 @@
-use Rattle.std.proofs.Common.{ℕ, map, take, sym, ap, ◌∙◌, arith}
+use Rattle.std.proofs.Common.{◌≡◌, ℕ, length, map, take, refl, ap, ◌∙◌, arith, rules}
+use Rattle.std.proofs.lemmas.Iterator.{YieldsList-from_map_by, YieldsList-from_range}
+use Rattle.std.proofs.lemmas.Iterator.Consumers.{YieldsList-at, reduce_by_from_yields_List}
 use Rattle.std.proofs.lemmas.List.{length-map}
-use Rattle.rules.specs.Choice.{growth, first_least}
-use Rattle.tree.proofs.Choosing.{least_first, least_takes, least_keeps}
+use Rattle.tree.specs.declared.choice.Growth.{Growth}
+use Rattle.rules.specs.Choice.{first_least, growth}
+use Rattle.tree.proofs.Least.{Placed, first_of, least_reduced, picks_first, some_from_map}
 use Rattle.tree.proofs.choice.choose.Goals as goal
-use Rattle.tree.proofs.choice.choose.Goals.{then-is_less, else-is_less}
 
-pub loop-i-init : goal.loop-i-init
-loop-i-init c =
-    (sym (least_first (growth (map (take c.args.dims) c.args.boxes.now) (take c.args.dims c.args.letters))), c.growth_of-best.ensures, omega arith)
+abbrev placed : Growth → Placed
+placed g = ((g.common, g.area, g.before), g.place)
 
-pub loop-i-preserved : goal.loop-i-preserved
-loop-i-preserved c =
-    let g = growth (map (take c.args.dims) c.args.boxes.now) (take c.args.dims c.args.letters) in
-    elim c.if-is_less.branch [
-      | then-is_less v ↦ (
-        v.place-is ∙ least_takes g c.loop-i.i c.loop-i.place c.growth_of-score.result c.loop-i.best c.loop-i.invariant.0 c.loop-i.invariant.1 c.growth_of-score.ensures (sym v.if-is_less.ensures),
-        v.best-is ∙ c.growth_of-score.ensures ∙ ap g (sym v.place-is),
-        omega (arith, v.place-is),
-      )
-      | else-is_less v ↦ (
-        v.place-is ∙ least_keeps g c.loop-i.i c.loop-i.place c.growth_of-score.result c.loop-i.best c.loop-i.invariant.0 c.loop-i.invariant.1 c.growth_of-score.ensures (sym v.if-is_less.ensures),
-        v.best-is ∙ c.loop-i.invariant.1 ∙ ap g (sym v.place-is),
-        omega (arith, v.place-is),
-      )
-    ]
-
-pub returns : goal.returns
-returns c =
-    let g = growth (map (take c.args.dims) c.args.boxes.now) (take c.args.dims c.args.letters) in
-    record {
-      place = c.loop-i.invariant.0 ∙ ap (first_least g) (omega (arith, length-map c.args.boxes.now (take {A = ℕ} c.args.dims)));
-      within = c.loop-i.invariant.2;
-    }
+pub returns-clause-place : goal.returns-clause-place
+returns-clause-place c =
+    let score = growth (map (take c.args.dims) c.args.boxes.now) (take c.args.dims c.args.letters) in
+    let n = length c.args.boxes.now in
+    let e = reduce_by_from_yields_List _ first_of _ _ (picks_first placed) c.min.ensures.ran
+    (YieldsList-from_map_by _ placed (λ i. (growth (map (take c.args.dims) c.args.boxes.now) (take c.args.dims c.args.letters) i, i))
+    (YieldsList-at c.map.ensures.source (YieldsList-from_range 0 n n refl (omega arith))) c.map.ensures.closure (λ x r q k. (search rules, search rules))) in
+    let s = some_from_map placed c.min.result _ (e ∙ least_reduced score n c.requires.some) in
+    let m = rw s.1 at c.map_or.ensures in
+    let r : c.map_or.result ≡ s.0.place = search rules in
+    r ∙ ap (λ (x : Placed). x.1) s.2 ∙ ap (first_least score) (omega (arith, length-map c.args.boxes.now (take {A = ℕ} c.args.dims)))

@@ -20,10 +20,10 @@ grown d n i bs v pt b g r0 r1 more kept wider a sg sb og ob en l ep eb eg e0 e1 
     let p : ◌≡◌ {A = Score} (r0, r1, a) ((commons (take d g) (map (take d) bs) - common (take d g) (take d b)) - (commons (take d b) (map (take d) bs) - common (take d b) (take d b)), area (take d g) - area (take d b), area (take d b)) = cc in
     p ∙ q
 
-pub returns : goal.returns
-returns c =
-    grown c.args.dims (c.args.dims - 0) c.args.i c.args.boxes.now c.args.letters c.point_of.result (get_or c.args.boxes.now c.args.i []) c.union_of-g.result
-    _ _ c.saturating_sub-more.result c.saturating_sub-kept.result c.area_of-wider.result c.area_of-area.result c.common_sum.result c.common_sum-2.result c.common_of.result c.common_of-2.result
+pub returns-clause-score : goal.returns-clause-score
+returns-clause-score c =
+    sym (grown c.args.dims (c.args.dims - 0) c.args.place c.args.boxes.now c.args.letters c.point_of.result (get_or c.args.boxes.now c.args.place []) c.union_of-g.result
+    _ _ c.saturating_sub-more.result c.saturating_sub-kept.result c.area_of.result c.area_of-before.result c.common_sum.result c.common_sum-2.result c.common_of.result c.common_of-2.result
     (omega arith) (omega arith) c.point_of.ensures refl c.union_of-g.ensures
     c.saturating_sub.ensures c.saturating_sub-2.ensures c.saturating_sub-more.ensures c.saturating_sub-kept.ensures
-    c.common_sum.ensures c.common_of.ensures.value c.common_sum-2.ensures c.common_of-2.ensures.value c.area_of-area.ensures.value c.area_of-wider.ensures.value
+    c.common_sum.ensures c.common_of.ensures.value c.common_sum-2.ensures c.common_of-2.ensures.value c.area_of-before.ensures.value c.area_of.ensures.value)

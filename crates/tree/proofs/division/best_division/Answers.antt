@@ -1,27 +1,23 @@
-use Rattle.std.proofs.Common.{◌≡◌, map, take, sym, ap, ◌∙◌, arith}
-use Rattle.tree.specs.Nodes.{divided}
+use Rattle.std.proofs.Common.{◌≡◌, map, take, refl, ap, ◌∙◌, rules}
+use Rattle.std.proofs.lemmas.Iterator.{YieldsList-from_map_by, YieldsList-from_range}
+use Rattle.std.proofs.lemmas.Iterator.Consumers.{YieldsList-at, YieldsList-from_filter, reduce_by_from_yields_List}
+use Rattle.tree.specs.declared.division.Parting.{Parting}
 use Rattle.rules.specs.Choice.{Score}
-use Rattle.rules.specs.Division.{best_below}
-use Rattle.tree.proofs.Parts.{best_takes, best_keeps, best_no}
+use Rattle.rules.specs.Division.{divides, parting}
+use Rattle.tree.proofs.Least.{best_reduced, lesser, picks_lesser, some_from_map}
 use Rattle.tree.proofs.division.best_division.Goals as goal
-use Rattle.tree.proofs.division.best_division.Goals.{then-is_division+then-is_less, then-is_division+else-is_less, else-is_division}
 
-pub loop-code-preserved : goal.loop-code-preserved
-loop-code-preserved c =
-    let d = c.args.dims in
-    let bs = map (take c.args.dims) c.args.boxes.now in
-    let n = c.loop-code.code in
-    elim c.if-is_division.branch [
-      | then-is_division+then-is_less w ↦
-          w.best-is ∙ best_takes d bs n w.score_of-score.result c.loop-code.best c.loop-code.invariant (sym w.if-is_division.ensures) w.score_of-score.ensures (sym w.if-is_less.ensures)
-      | then-is_division+else-is_less w ↦
-          w.best-is ∙ best_keeps d bs n w.score_of-score.result c.loop-code.best c.loop-code.invariant (sym w.if-is_division.ensures) w.score_of-score.ensures (sym w.if-is_less.ensures)
-      | else-is_division w ↦ w.best-is ∙ best_no d bs n c.loop-code.best c.loop-code.best c.loop-code.invariant (sym w.if-is_division.ensures)
-    ]
+abbrev score : Parting → Score
+score p = (p.common, p.areas, p.code)
 
 pub returns : goal.returns
-unfolding divided
 returns c =
-    let e : c.loop-code.code ≡ 512 = omega arith in
-    let bs = map (take c.args.dims) c.args.boxes.now in
-    ap (λ (s : Score). s.2) c.loop-code.invariant ∙ ap (best_below c.args.dims bs) e
+    let e = reduce_by_from_yields_List _ lesser _ _ (picks_lesser score) c.min.ensures.ran
+    (YieldsList-from_map_by _ score (parting c.args.dims (map (take c.args.dims) c.args.boxes.now))
+    (YieldsList-at c.map.ensures.source (YieldsList-from_filter _ divides
+    (YieldsList-at c.filter.ensures.source (YieldsList-from_range 0 512 512 refl refl)) c.filter.ensures.closure (λ x r q k. (search rules, search rules))))
+    c.map.ensures.closure (λ x r q k. (search rules, search rules))) in
+    let s = some_from_map score c.min.result _ (e ∙ best_reduced c.args.dims (map (take c.args.dims) c.args.boxes.now)) in
+    let m = rw s.1 at c.map_or.ensures in
+    let r : c.map_or.result ≡ s.0.code = search rules in
+    r ∙ ap (λ (x : Score). x.2) s.2

@@ -4,4 +4,4 @@ use Rattle.rules.specs.Division.{group}
 use Rattle.tree.proofs.division.group_box.Given as goal
 
 abbrev pub invariant-loop-i : goal.invariant-loop-i
-invariant-loop-i l = joined l.r (group l.second (l.code / 2 ^ l.i) (drop l.i l.boxes)) ≡ around 10 (group l.second l.code l.boxes)
+invariant-loop-i l = joined l.around (group l.second (l.code / 2 ^ l.i) (drop l.i l.boxes)) ≡ around 10 (group l.second l.code l.boxes)

@@ -1,15 +1,16 @@
+use Rattle.std.proofs.Common.{rules}
 use Rattle.refusals.specs.Refused.{refusal_of}
 use Rattle.rules.specs.Register.{enters}
-use Rattle.catalogue.specs.declared.catalogue.Catalogue.TheVariants.{Open}
-use Rattle.catalogue.proofs.Runnings.{open_does, runs_on, at_capacity}
+use Rattle.catalogue.specs.Runs.{Does}
+use Rattle.catalogue.proofs.Runnings.{opened, runs_on, at_capacity}
 use Rattle.catalogue.proofs.catalogue.Catalogue.enter.Goals as goal
 
-pub returns-in-Open : goal.returns-in-Open
-returns-in-Open c =
-    let self = c.args.self.now in let call = enters c.args.number c.args.letters.now in let r = refusal_of c.enter.result in
-    let d = open_does self c.in-Open.index c.enter.new.self call r c.in-Open.is c.enter.ensures in
-    record {
-      does = d;
-      runs = runs_on self (Open c.enter.new.self) call r d;
-      full = at_capacity self (Open c.enter.new.self) c.args.number c.args.letters.now r d;
-    }
+pub returns-clause-runs : goal.returns-clause-runs
+returns-clause-runs c =
+    let d : Does c.args.self.now (opened c.enter.new.self) (enters c.args.number c.args.letters.now) (refusal_of c.enter.result) = search rules in
+    runs_on c.args.self.now (opened c.enter.new.self) (enters c.args.number c.args.letters.now) (refusal_of c.enter.result) d
+
+pub returns-clause-full : goal.returns-clause-full
+returns-clause-full c =
+    let d : Does c.args.self.now (opened c.enter.new.self) (enters c.args.number c.args.letters.now) (refusal_of c.enter.result) = search rules in
+    at_capacity c.args.self.now (opened c.enter.new.self) c.args.number c.args.letters.now (refusal_of c.enter.result) d

@@ -1,4 +1,4 @@
-use Rattle.std.proofs.Common.{◌≡◌, min, length}
+use Rattle.std.proofs.Common.{◌≡◌, length}
 use Rattle.catalogue.specs.Replays.{calls_of, Replayed}
 use Rattle.catalogue.proofs.catalogue.Catalogue.replay.Given as goal
 

@@ -1,8 +1,11 @@
+use Rattle.std.proofs.Common.{sym, subst}
 use Rattle.tree.specs.Tables.{table_boxes}
-use Rattle.catalogue.proofs.Runnings.{open_started}
+use Rattle.catalogue.specs.Runs.{Started}
+use Rattle.catalogue.proofs.Runnings.{start_leaves}
 use Rattle.catalogue.proofs.catalogue.Catalogue.start.Goals as goal
 
-pub returns-in-Ok : goal.returns-in-Ok
-returns-in-Ok c =
-    let e = c.in-Ok.ensures in
-    open_started c.args.plan.now c.args.capacity (table_boxes c.args.table) c.in-Ok.index e.told e.made.0 e.made.1
+pub returns : goal.returns
+returns c =
+    let boxes = table_boxes c.args.table in
+    subst (λ o. Started c.args.plan.now c.args.capacity boxes (record { index = o })) (sym c.ok.ensures.value)
+    (start_leaves c.args.plan.now c.args.capacity boxes c.start.result c.start.ensures.told c.start.ensures.made)
