@@ -14,7 +14,7 @@ returns-in_err-count-clause-told c =
     let n = c.unwrap_or-n.result in
     let plan = c.plan.result.now in
     let l = all_listed x (rows_in (tree_in x)) _ B c.clips.result n c.clips.ensures (search rules) c.unwrap_or-n.ensures in
-    let none : c.of_described.result ≡ None = search rules in
-    let q = rw none at c.of_described.ensures in
+    let none : c.of.result ≡ None = search rules in
+    let q = rw none at c.of.ensures in
     let e : refusal_of c.from_residual.result ≡ Some (refused_at 26 0 0) = search rules in
     e ∙ count_none x plan (take (n - 0) B) c.plan.ensures.value (ap (λ p. stored_rows (length p) (take (n - 0) B)) c.plan.ensures.value ∙ l.1) q
