@@ -50,7 +50,8 @@ pub(crate) fn are_vector_and_box(query: &[u8], sets: &[u64]) -> bool
     is_one_d(query.len(), sets.len()) && is_small(query)
 }
 
-// The cost of a vector beside the query; none of anything but two vectors of one d.
+// The cost of a vector beside the query; none of anything but two vectors of one d. By index, here and below: the dimension is what a cost is
+// asked by. The two are not one function: a clause cannot tell two bounds of one trait apart that differ in what stands beside the query alone.
 pub(crate) fn vector_cost<C: Cost>(cost: &C, query: &[u8], vector: &[u8]) -> Option<u32>
     ensures { result ≡ vector_costs (C.letter_costs cost.now) query.now vector.now }
 {

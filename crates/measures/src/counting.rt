@@ -28,6 +28,7 @@ fn count_letters(numbers: &mut [[u16; 64]; 10], letters: &[u8])
     ensures shape { Shaped numbers.new }
     ensures numbers { (i l : ℕ) → number_at numbers.new i l ≡ number_at numbers.old i l + one_at i l letters.now }
 {
+    // By index: what is written through a zip of `iter_mut` is not known after it.
     for (i, letter) in letters.iter().enumerate() {
         numbers[i][usize::from(*letter)] += 1;
     }
