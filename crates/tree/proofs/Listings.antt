@@ -1,8 +1,8 @@
 -- The clips of a tree written to a list.
-use Rattle.std.proofs.Common.{◌≡◌, ℕ, zero, suc, ◌+◌, ◌-◌, ◌*◌, ◌/◌, ◌%◌, ◌^◌, ◌<◌, ◌≤◌, Bool, true, false, ltb, leb, List, [], ◌∷◌, ◌++◌, map, length, get_or, take, drop, set, replicate, Some, None, sym, refl, ap, ◌∙◌, subst, ap₂, add-one, arith, length-set}
+use Rattle.std.proofs.Common.{◌≡◌, ℕ, zero, suc, ◌+◌, ◌-◌, ◌*◌, ◌/◌, ◌%◌, ◌^◌, ◌<◌, ◌≤◌, Bool, true, false, ltb, leb, List, [], ◌∷◌, ◌++◌, map, length, get_or, take, drop, set, replicate, Some, sym, refl, ap, ◌∙◌, subst, ap₂, add-one, arith, length-set}
 use Rattle.std.specs.List.{flat_map}
 use Rattle.std.proofs.lemmas.List.{append-nil, take_more, take_more_set, drop_more, take_all, drop-drop, drop-set-lt, flat_map_more, length-map, length-append, length_push, length-take-le, append_assoc, get_or_at, drop_all, map_more, take_at, drop_at, get_or_default, get_or_past}
-use Rattle.std.proofs.lemmas.Bool.{le-leb, lt-leb, leb-true}
+use Rattle.std.proofs.lemmas.Bool.{le-leb, leb-true}
 use Rattle.space.specs.Boxes.{given}
 use Rattle.space.specs.Row.{Row, stored_row, stored_rows}
 use Rattle.space.specs.declared.clip.StoredClip.{StoredClip}
@@ -52,9 +52,6 @@ pub record Copying (N : List Node) (g : ℕ) (es : List NodeEntry) (A B : List S
   pub more : m ≡ n + total (λ x. length (clips_in N g x)) (take k es)
   pub long : length B ≡ length A
   pub rest : drop m B ≡ drop m A
-
-pub copying_start : (N : List Node) (g : ℕ) (es : List NodeEntry) (A : List StoredClip) (n : ℕ) → Copying N g es A A n n 0
-copying_start N g es A n = record { front = sym (append-nil (take n A)); more = omega arith; long = refl; rest = refl }
 
 pub copying_step : (N : List Node) (g : ℕ) (es : List NodeEntry) (A B C : List StoredClip) (n m j k : ℕ) → k < length es
     → Copying N g es A B n m k → Copied N g (get_or es k no_entry) B C m j → Copying N g es A C n j (k + 1)
@@ -120,12 +117,6 @@ module _ (x : Index) where
         count = ap Some many ∙ sym (ap (λ b. given b (length rows)) (le-leb (length rows) (length A) room));
         front = record { clips = ap (stored_rows (length (plan_of x))) p.front ∙ root_rows; rest = p.rest };
       }
-
-pub listed_none : (x : Index) (rows : List Row) (A : List StoredClip) → length A < x.clips → Listed x rows A A None
-listed_none x rows A l = record {
-  count = sym (ap (λ b. given b (length (rows_in (tree_in x)))) (lt-leb (length (rows_in (tree_in x))) (length A) (omega (arith, (whole_of x).count))));
-  front = refl;
-}
 
 -- ---- keys
 pub keys_more : (C : List StoredClip) (K : List ℕ) (i w : ℕ) (d : StoredClip) → i < length K → i < length C → w ≡ (get_or C i d).number * 2 ^ 32 + i

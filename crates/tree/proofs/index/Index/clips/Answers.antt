@@ -1,12 +1,7 @@
 use Rattle.std.proofs.Common.{arith}
-use Rattle.rules.specs.Tree.{rows_in}
-use Rattle.tree.specs.Seen.{tree_in}
-use Rattle.tree.proofs.Listings.{ask_clips, clips_done, listed_none}
+use Rattle.tree.proofs.Listings.{ask_clips, clips_done}
 use Rattle.tree.proofs.Wholes.{low}
 use Rattle.tree.proofs.index.Index.clips.Goals as goal
-
-pub returns-then-out-self : goal.returns-then-out-self
-returns-then-out-self c = let x = c.args.self.now in listed_none x (rows_in (tree_in x)) c.args.out.now c.if-out-self.true
 
 pub overflow_add-self : goal.overflow_add-self
 overflow_add-self c = omega (arith, low c.args.self.now)

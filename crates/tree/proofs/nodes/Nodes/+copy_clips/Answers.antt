@@ -5,7 +5,7 @@ use Rattle.tree.specs.Nodes.{no_entry}
 use Rattle.tree.specs.Leaving.{Within}
 use Rattle.tree.proofs.ReadNodes.{read_entries}
 use Rattle.tree.proofs.SetsAside.{within_up, clips_leaf_long}
-use Rattle.tree.proofs.Listings.{copied_leaf, copying_start, copying_step, copying_end, copying_room}
+use Rattle.tree.proofs.Listings.{copied_leaf, copying_step, copying_end, copying_room}
 use Rattle.tree.proofs.nodes.Nodes.+copy_clips.Goals as goal
 
 pub bounds-out-n : goal.bounds-out-n
@@ -18,9 +18,6 @@ returns-then-height-eq0 t c =
 
 pub index-requires : goal.index-requires
 index-requires t c = omega (arith, (within_up c.args.self.now.places.items c.args.height c.args.e c.if-height-eq0.false c.requires.within c.place.result c.place.ensures).0)
-
-pub loop-entry-init : goal.loop-entry-init
-loop-entry-init t c = copying_start c.args.self.now.places.items (c.args.height - 1) c.entries-entries.result.now c.args.out.now c.args.n
 
 pub copy_clips-many-requires : goal.copy_clips-many-requires
 copy_clips-many-requires t c =
