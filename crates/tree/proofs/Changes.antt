@@ -5,7 +5,7 @@ use Rattle.std.specs.Option.{option_map}
 use Rattle.std.specs.List.{AllByRecursion}
 use Rattle.std.proofs.ByRecursion.{All-weaker}
 use Rattle.std.proofs.lemmas.List.{get_or_append_left, get_or-append_right}
-use Rattle.std.proofs.lemmas.Bool.{cases_lt, false≢true, eq-eqb, ne_eqb, eqb-true, ltb-true, le-leb, lt-leb, le-ltb, lt-ltb}
+use Rattle.std.proofs.lemmas.Bool.{cases_lt, false≢true, ne_eqb, eqb-true, ltb-true, le-leb, lt-leb, le-ltb}
 use Rattle.space.specs.Row.{Row, stored_row, stored_as}
 use Rattle.space.specs.Plans.{vector_fault, clip_fault}
 use Rattle.space.specs.declared.clip.StoredClip.{StoredClip}
@@ -179,15 +179,6 @@ module _ (plan : List ℕ) (c : ℕ) (rows : List Row) (n : ℕ) (v : List ℕ) 
 module _ (rows : List Row) (n words : ℕ) where
   withdraw_by : (a b t : Bool) → eqb n 0 ≡ a → lists n rows ≡ b → ltb words (2 * length rows) ≡ t → of_withdraw rows n words ≡ (when a 7 else when (not b) 22 else when t 24)
   withdraw_by a b t p q r = cc
-
-  pub withdraw_zero : n ≡ 0 → Some (refused_at 7 0 0) ≡ of_withdraw rows n words
-  withdraw_zero e = sym (withdraw_by true _ _ (eq-eqb n 0 e) refl refl)
-
-  pub withdraw_missing : (n ≡ 0 → ⊥) → lists n rows ≡ false → Some (refused_at 22 0 0) ≡ of_withdraw rows n words
-  withdraw_missing e q = sym (withdraw_by false false _ (ne_eqb n 0 e) q refl)
-
-  pub withdraw_short : (n ≡ 0 → ⊥) → lists n rows ≡ true → words < 2 * length rows → Some (refused_at 24 0 0) ≡ of_withdraw rows n words
-  withdraw_short e q l = sym (withdraw_by false true true (ne_eqb n 0 e) q (lt-ltb words (2 * length rows) l))
 
   pub withdraw_fine : (n ≡ 0 → ⊥) → lists n rows ≡ true → 2 * length rows ≤ words → None ≡ of_withdraw rows n words
   withdraw_fine e q l = sym (withdraw_by false true false (ne_eqb n 0 e) q (le-ltb words (2 * length rows) l))

@@ -1,28 +1,17 @@
 -- A clip entered at the root.
-use Rattle.std.proofs.Common.{◌≡◌, ℕ, suc, ◌+◌, ◌<◌, ◌≤◌, true, false, cond, eqb, List, [], ◌∷◌, length, get_or, Some, None, sym, ap, ◌∙◌, ap₂, arith}
+use Rattle.std.proofs.Common.{◌≡◌, ℕ, suc, ◌+◌, ◌<◌, ◌≤◌, true, cond, eqb, List, [], ◌∷◌, length, get_or, Some, None, sym, ap, ◌∙◌, ap₂, arith}
 use Rattle.std.specs.List.{AllByRecursion}
-use Rattle.std.proofs.lemmas.Bool.{eq-eqb, ne_eqb}
+use Rattle.std.proofs.lemmas.Bool.{eq-eqb}
 use Rattle.rules.specs.Tree.{Box, Entry, Tree}
 use Rattle.rules.specs.Enter.{rooted}
 use Rattle.space.specs.declared.clip.StoredClip.{StoredClip}
 use Rattle.tree.specs.declared.node.Node.{Node}
-use Rattle.tree.specs.Nodes.{spot, entry_of, total, times, Sound, Written, held, enters, EnteredBelow, EnteredRoot}
+use Rattle.tree.specs.Nodes.{spot, entry_of, total, times, Sound, Written, held, EnteredBelow, EnteredRoot}
 use Rattle.tree.proofs.Frame.{one_self}
 use Rattle.tree.proofs.Writes.{put_length, put_entry, put_times, put_sound}
 use Rattle.tree.proofs.Siblings.{held_more}
 
 module _ (d : ℕ) (N M : List Node) (spare : List ℕ) (h i : ℕ) (clip : StoredClip) (u : ℕ) (gr : EnteredBelow d N M spare h i clip u) where
-  pub rose_one : u ≤ h → EnteredRoot d N M spare h i clip h i u
-  rose_one l =
-      let n : eqb u (suc h) ≡ false = ne_eqb u (suc h) (λ e. omega arith) in
-      record {
-        long = gr.long;
-        used = omega arith;
-        tree = ap (λ x. rooted d h x None) gr.first ∙ ap (rooted d h (enters d N h i clip).0) (ap (λ b. cond b (Some (entry_of d M (suc h) (spot (get_or spare h 0)))) None) (sym n) ∙ gr.second);
-        count = λ k. omega (arith, gr.count k, ap (λ b. cond b (times M (suc h) (spot (get_or spare h 0)) k) 0) n);
-        sound = gr.sound;
-      }
-
   module _ (all : u ≡ suc h) (room : suc h < length spare) (in-N : get_or spare (suc h) 0 < length N)
       (apart : (k : ℕ) → times N (suc h) (spot i) k + held spare (suc (suc h)) k ≤ 1) where
     divided : eqb u (suc h) ≡ true

@@ -4,7 +4,7 @@ use Rattle.space.specs.Boxes.{point}
 use Rattle.rules.specs.Tree.{sets_of}
 use Rattle.tree.specs.declared.node.NodeEntry.{NodeEntry}
 use Rattle.tree.specs.declared.node.Node.{Node}
-use Rattle.tree.specs.Nodes.{node, clip_in, place_in, entry_of, Sound, Lettered}
+use Rattle.tree.specs.Nodes.{node, clip_in, place_in, entry_of, Sound}
 
 module _ (d : ℕ) (N : List Node) where
   pub leaf_sets : (h : ℕ) (e : NodeEntry) → h ≡ 0 → sets_of h (entry_of d N h e) ≡ point (take d (clip_in e).letters)
@@ -16,11 +16,6 @@ module _ (d : ℕ) (N : List Node) where
   unfolding entry_of
   node_sets zero e p = absurd (p refl)
   node_sets (suc h) e p = refl
-
-pub leaf_sound : (N : List Node) (h : ℕ) (e : NodeEntry) → h ≡ 0 → Sound N h e → Lettered (clip_in e)
-unfolding Sound
-leaf_sound N zero e p s = s
-leaf_sound N (suc h) e p s = absurd (omega arith)
 
 pub node_sound : (N : List Node) (h : ℕ) (e : NodeEntry) → (h ≡ 0 → ⊥) → Sound N h e → place_in e < length N
 unfolding Sound

@@ -1,8 +1,7 @@
 -- Where a number is; the entries of a node but one, or but those of a number.
-use Rattle.std.proofs.Common.{◌≡◌, ℕ, zero, suc, ◌+◌, ◌-◌, ◌*◌, ◌/◌, ◌%◌, ◌^◌, ◌<◌, ◌≤◌, Bool, true, false, cond, not, ltb, Some, None, ◌||◌, eqb, List, [], ◌∷◌, ◌++◌, map, length, get_or, take, drop, set, sym, refl, ap, ◌∙◌, pow-suc, div-one, arith}
+use Rattle.std.proofs.Common.{◌≡◌, ℕ, zero, suc, ◌+◌, ◌-◌, ◌*◌, ◌/◌, ◌%◌, ◌^◌, ◌≤◌, Bool, true, false, cond, not, ltb, Some, None, ◌||◌, eqb, List, [], ◌∷◌, ◌++◌, map, length, take, drop, sym, refl, ap, ◌∙◌, pow-suc, div-one, arith}
 use Rattle.std.specs.List.{AllByRecursion, list_any, position, position_or_len}
 use Rattle.std.specs.Option.{unwrap_or}
-use Rattle.std.proofs.lemmas.List.{drop_more, drop_all, take_more_set, append_assoc, append-nil}
 use Rattle.std.proofs.lemmas.Bool.{ne_eqb, ltb-false}
 use Rattle.space.specs.Boxes.{has}
 use Rattle.rules.specs.Division.{alike, group}
@@ -12,7 +11,7 @@ use Rattle.rules.specs.Rows.{lists, without}
 use Rattle.rules.specs.Withdraw.{holder}
 use Rattle.tree.specs.declared.node.NodeEntry.{NodeEntry}
 use Rattle.tree.specs.declared.node.Node.{Node}
-use Rattle.tree.specs.Nodes.{no_entry, node, inside, clip_in, place_in, entry_of}
+use Rattle.tree.specs.Nodes.{node, inside, clip_in, place_in, entry_of}
 use Rattle.space.specs.Row.{stored_row}
 use Rattle.tree.specs.Leaving.{rows_of, listed_in, first_index, kept}
 
@@ -90,24 +89,6 @@ first_found p es =
     go n m false e l = let k = ltb-false n m e in omega arith
 
 -- ---- the entries of a leaf but those of a number
-kept_at : (n : ℕ) (es : List NodeEntry) (i : ℕ) (t : Bool) → i < length es → eqb (clip_in (get_or es i no_entry)).number n ≡ t
-    → kept n (drop i es) ≡ cond t (kept n (drop (i + 1) es)) (get_or es i no_entry ∷ kept n (drop (i + 1) es))
-kept_at n es i t l e = ap (kept n) (drop_more es i no_entry l) ∙ ap (λ b. cond b (kept n (drop (i + 1) es)) (get_or es i no_entry ∷ kept n (drop (i + 1) es))) e
-
-pub kept_takes : (number : ℕ) (es out all : List NodeEntry) (i n : ℕ) → i < length es → n < length out → eqb (clip_in (get_or es i no_entry)).number number ≡ false
-    → take n out ++ kept number (drop i es) ≡ all → take (n + 1) (set out n (get_or es i no_entry)) ++ kept number (drop (i + 1) es) ≡ all
-kept_takes number es out all i n l m t e =
-    let x = get_or es i no_entry in
-    let r = kept number (drop (i + 1) es) in
-    ap (λ y. y ++ r) (take_more_set out n x m) ∙ append_assoc (take n out) (x ∷ []) r ∙ ap (λ y. take n out ++ y) (sym (kept_at number es i false l t)) ∙ e
-
-pub kept_passes : (number : ℕ) (es out all : List NodeEntry) (i n : ℕ) → i < length es → eqb (clip_in (get_or es i no_entry)).number number ≡ true
-    → take n out ++ kept number (drop i es) ≡ all → take n out ++ kept number (drop (i + 1) es) ≡ all
-kept_passes number es out all i n l t e = ap (λ y. take n out ++ y) (sym (kept_at number es i true l t)) ∙ e
-
-pub kept_end : (number : ℕ) (es out all : List NodeEntry) (i n : ℕ) → length es ≤ i → take n out ++ kept number (drop i es) ≡ all → take n out ≡ all
-kept_end number es out all i n l e = sym (append-nil (take n out)) ∙ ap (λ x. take n out ++ kept number x) (sym (drop_all i es l)) ∙ e
-
 cond_all : {E : Type 0} (P : E → Type 0) (t : Bool) (e : E) (es : List E) → P e → AllByRecursion P es → AllByRecursion P (cond t es (e ∷ es))
 cond_all P true e es p q = q
 cond_all P false e es p q = (p, q)

@@ -64,9 +64,6 @@ keyed_more d W k l =
     ∙ map_push (stored_row d) (keyed W k) (clip_by W (get_or W k 0))
 
 module _ (d : ℕ) (N : List Node) (F W : List ℕ) (h i n : ℕ) where
-  pub again_start : (t : ℕ) → Stands d (rows_of d N h i + n) N F t h i → EnteredAgain d N N F W h i n 0 t h i
-  again_start t s = record { tree = refl; rows = omega arith; stands = s }
-
   pub again_step : (M L : List Node) (k u g j v b a : ℕ) (c : StoredClip) → k < n → k < length W → EnteredAgain d N M F W h i n k u g j → c ≡ clip_by W (get_or W k 0)
       → EnteredClip d M L F u g j c v b a → EnteredAgain d N L F W h i n (k + 1) v b a
   again_step M L k u g j v b a c l m w is p =

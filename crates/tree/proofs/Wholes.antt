@@ -1,8 +1,6 @@
 -- What an index keeps, read from its fields.
-use Rattle.std.proofs.Common.{◌≡◌, ℕ, suc, ◌+◌, ◌-◌, ◌*◌, ◌≤◌, true, leb, List, length, take, vec_len, sym, ap, ◌∙◌, subst, arith}
+use Rattle.std.proofs.Common.{◌≡◌, ℕ, suc, ◌+◌, ◌-◌, ◌*◌, ◌≤◌, true, List, length, take, sym, ap, subst, arith}
 use Rattle.std.proofs.lemmas.List.{length-take-le}
-use Rattle.std.proofs.lemmas.Bool.{and_from, le-leb}
-use Rattle.space.specs.Boxes.{dimensions}
 use Rattle.space.specs.declared.clip.StoredClip.{StoredClip}
 use Rattle.rules.specs.Tree.{Tree, rows_in}
 use Rattle.rules.specs.Rows.{lists}
@@ -15,7 +13,7 @@ use Rattle.tree.specs.declared.nodes.Nodes.{Nodes}
 use Rattle.tree.specs.declared.nodes.Subtree.{Subtree}
 use Rattle.tree.specs.Nodes.{spot, Sound, tree_of}
 use Rattle.tree.specs.Leaving.{EachOnce, EnteredClip}
-use Rattle.tree.specs.Standing.{reserve, Stands, rows_of, Withdrew, Whole}
+use Rattle.tree.specs.Standing.{Stands, rows_of, Withdrew, Whole}
 use Rattle.tree.specs.Seen.{plan_of, tree_in}
 use Rattle.tree.proofs.Props.{whole_out}
 use Rattle.tree.proofs.Standings.{stands_used}
@@ -35,11 +33,6 @@ few x = let w = whole_of x in omega (arith, w.count, w.stands.rows, w.stands.mos
 
 pub dimensions_are : (x : Index) → length (plan_of x) ≡ x.nodes.dims
 dimensions_are x = length-take-le x.nodes.dims x.sizes (omega (arith, x.nodes.axes, x.long))
-
-pub plan_fits : (x : Index) → dimensions (length (plan_of x)) ≡ true
-plan_fits x =
-    let n = dimensions_are x in
-    and_from (leb 1 (length (plan_of x))) (leb (length (plan_of x)) 10) (le-leb 1 (length (plan_of x)) (omega (arith, x.some))) (le-leb (length (plan_of x)) 10 (omega (arith, x.nodes.axes)))
 
 -- ---- what a call asks, and what it leaves
 module _ (x : Index) where
@@ -90,12 +83,6 @@ module _ (x : Index) where
 module _ (x : Index) (M : Nodes) (dims : M.dims ≡ x.nodes.dims) where
   pub same_plan : take M.dims x.sizes ≡ plan_of x
   same_plan = ap (λ d. take d x.sizes) dims
-
-  pub same_tree : (r : Subtree) (t : Tree) → tree_of (length (plan_of x)) M.places.items r.height r.place ≡ t → tree_of (length (take M.dims x.sizes)) M.places.items r.height r.place ≡ t
-  same_tree r t e = ap (λ v. tree_of (length v) M.places.items r.height r.place) same_plan ∙ e
-
-  pub same_boxes : length M.places.items ≡ length x.nodes.places.items → vec_len M.places - reserve ≡ vec_len x.nodes.places - reserve
-  same_boxes l = ap (λ n. n - reserve) (M.places.ok.0 ∙ l ∙ sym x.nodes.places.ok.0)
 
   pub same_whole : (G : FreePlaces) (clips top : ℕ) (r : Subtree) → Whole (plan_of x) x.capacity clips top M.places.items G.places.items G.used r.height r.place
       → Whole (take M.dims x.sizes) x.capacity clips top M.places.items G.places.items G.used r.height r.place

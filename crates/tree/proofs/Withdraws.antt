@@ -43,9 +43,6 @@ module _ (N M : List Node) where
   count_frame (suc h) i a =
       ap (λ n. 1 + total (count_in M h) (inside n)) (root_same h i a) ∙ ap (λ n. 1 + n) (measure_same h (count_in N h) (count_in M h) (count_frame h) (inside (node N (place_in i))) (below h i a))
 
-clips_long : List Node → ℕ → NodeEntry → ℕ
-clips_long N h e = length (clips_in N h e)
-
 clips_long_frame : (N M : List Node) (h : ℕ) (i : NodeEntry) → Agree N M h i → length (clips_in M h i) ≡ length (clips_in N h i)
 clips_long_frame N M h i a = ap length (clips_frame N M h i a)
 

@@ -1,5 +1,5 @@
 -- The clips of a tree written to a list.
-use Rattle.std.specs.Prelude.{◌≡◌, ℕ, ◌+◌, List, ◌++◌, length, take, drop, Option, MatchOption, nat_le}
+use Rattle.std.specs.Prelude.{◌≡◌, ℕ, ◌+◌, ◌*◌, ◌/◌, ◌%◌, ◌^◌, List, [], ◌∷◌, length, take, drop, Option, MatchOption, nat_le, slice_index_or}
 use Rattle.space.specs.Boxes.{given}
 use Rattle.space.specs.Row.{Row, stored_rows}
 use Rattle.space.specs.declared.clip.StoredClip.{StoredClip}
@@ -10,10 +10,10 @@ use Rattle.tree.specs.declared.node.Node.{Node}
 use Rattle.tree.specs.Leaving.{clips_in}
 use Rattle.tree.specs.Seen.{plan_of, tree_in}
 
--- the list A has become B: behind its first n clips stand those of the tree of an entry, and there are m then
-pub record Copied (N : List Node) (h : ℕ) (e : NodeEntry) (A B : List StoredClip) (n m : ℕ) : Type 0 where
-  pub front : take m B ≡ take n A ++ clips_in N h e
-  pub more : m ≡ n + length (clips_in N h e)
+-- the list A has become B: its first m clips are those of the tree of an entry, all of them, and the others are as they were
+pub record Copied (N : List Node) (h : ℕ) (e : NodeEntry) (A B : List StoredClip) (m : ℕ) : Type 0 where
+  pub front : take m B ≡ clips_in N h e
+  pub more : m ≡ length (clips_in N h e)
   pub long : length B ≡ length A
   pub rest : drop m B ≡ drop m A
 

@@ -1,4 +1,4 @@
-// The places of a tree that are not in use. The type stands alone in its file, since the definitions that speak of it cannot be imported where it is declared.
+// The places of a tree that are not in use.
 ghost use Rattle.std.specs.Prelude.{◌≤◌, vec_len};
 
 // A stack that grows down: the free places are those of `places` from the place `used` on, and a tree has as many boxes as are not free.

@@ -12,26 +12,20 @@ use crate::nodes::Nodes;
 use space::StoredClip;
 
 impl Nodes {
-    // Copies the clips of the tree of an entry behind the n that are there, and says how many there are then.
-    pub(crate) fn copy_clips(
-        &self,
-        height: usize,
-        e: NodeEntry,
-        out: &mut [StoredClip],
-        n: usize,
-    ) -> usize
+    // Copies the clips of the tree of an entry to the front of a list, and says how many they are.
+    pub(crate) fn copy_clips(&self, height: usize, e: NodeEntry, out: &mut [StoredClip]) -> usize
         requires within { Within self.now.places.items height e }
-        requires room { n + length (clips_in self.now.places.items height e) ≤ length out.old }
-        ensures { Copied self.now.places.items height e out.old out.new n result }
+        requires room { length (clips_in self.now.places.items height e) ≤ length out.old }
+        ensures { Copied self.now.places.items height e out.old out.new result }
     {
         if height == 0 {
-            out[n] = e.clip();
-            return n + 1;
+            out[0] = e.clip();
+            return 1;
         }
         let entries = self.places[e.place()].entries();
-        let mut many = n;
+        let mut many = 0;
         for entry in entries {
-            many = self.copy_clips(height - 1, *entry, out, many);
+            many += self.copy_clips(height - 1, *entry, &mut out[many..]);
         }
         many
     }
@@ -66,14 +60,7 @@ impl Index {
         if out.len() < self.clips {
             return None;
         }
-        Some(
-            self.nodes.copy_clips(
-                self.root.height + 1,
-                NodeEntry::Place(self.root.place),
-                out,
-                0,
-            ),
-        )
+        Some(self.nodes.copy_clips(self.root.height + 1, NodeEntry::Place(self.root.place), out))
     }
 
     // Writes the listed clips to the front of `out` in rising number, and says how many; nothing where there is not room for all.

@@ -1,5 +1,5 @@
 // Whether an index can be started, and how.
-ghost use Rattle.std.specs.Prelude.{◌≡◌, ◌-◌, ◌≤◌, ◌++◌, length, replicate, IfOk};
+ghost use Rattle.std.specs.Prelude.{◌≡◌, length, IfOk};
 ghost use Rattle.refusals.specs.Refused.{refusal_of};
 ghost use Rattle.rules.specs.Refusals.{of_fit};
 ghost use Rattle.rules.specs.State.{standing};

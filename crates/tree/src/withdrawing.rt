@@ -1,8 +1,8 @@
 // How a clip leaves the tree.
-ghost use Rattle.std.specs.Prelude.{◌≡◌, ℕ, suc, ◌+◌, ◌*◌, ◌<◌, ◌≤◌, true, not, ◌++◌, length, take, drop, ◌==◌, ◌≢◌};
+ghost use Rattle.std.specs.Prelude.{◌≡◌, ℕ, suc, ◌<◌, ◌≤◌, true, ◌++◌, length, take, drop, ◌≢◌};
 ghost use Rattle.std.specs.List.{AllByRecursion};
 ghost use Rattle.tree.specs.Leaving.{RoomFor, Within, SetAside, listed_in, kept, WithdrawnBelow, WithdrawnRoot};
-ghost use Rattle.tree.specs.Nodes.{Sound, SoundIn, Written, times, inside, node, spot, clip_in};
+ghost use Rattle.tree.specs.Nodes.{Sound, SoundIn, Written, times, inside, node, spot};
 
 use crate::free::FreePlaces;
 use crate::node::NodeEntry;

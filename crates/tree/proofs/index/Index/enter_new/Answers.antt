@@ -1,8 +1,8 @@
-use Rattle.std.proofs.Common.{◌+◌, refl, sym, subst, arith}
+use Rattle.std.proofs.Common.{◌+◌, sym, subst, arith}
 use Rattle.tree.specs.Standing.{Whole}
 use Rattle.tree.specs.Seen.{plan_of}
 use Rattle.tree.proofs.Changes.{whole_entered}
-use Rattle.tree.proofs.Wholes.{whole_of, few, ask_enter, enter_done, same_plan, same_tree, same_boxes, same_whole}
+use Rattle.tree.proofs.Wholes.{whole_of, few, ask_enter, enter_done, same_whole}
 use Rattle.tree.proofs.index.Index.enter_new.Goals as goal
 
 pub enter_clip-self-requires : goal.enter_clip-self-requires
@@ -22,13 +22,3 @@ invariant_of-self c =
     let v = subst (λ A. Whole (plan_of x) x.capacity (x.clips + 1) c.max-self.result M.places.items A G.used r.height r.place) (sym c.enter_clip-self.ensures.free)
     (subst (λ m. Whole (plan_of x) x.capacity (x.clips + 1) m M.places.items x.free.places.items G.used r.height r.place) (sym c.max-self.ensures) w) in
     record { long = x.long; some = omega (arith, x.some, c.enter_clip-self.ensures.dims); whole = ∣ same_whole x M c.enter_clip-self.ensures.dims G (x.clips + 1) c.max-self.result r v ∣₁ }
-
-pub returns : goal.returns
-returns c =
-    let x = c.args.self.now in let M = c.enter_clip-self.new.self in let G = c.enter_clip-self.new.free in let r = c.enter_clip-self.result in
-    let dims = c.enter_clip-self.ensures.dims in
-    let p = enter_done x M.places.items c.args.clip G.used r.height r.place c.enter_clip-self.ensures.entered in
-    record {
-      stays = record { plan = same_plan x M dims; capacity = refl; boxes = same_boxes x M dims p.long };
-      tree = same_tree x M dims r _ p.tree;
-    }

@@ -1,4 +1,4 @@
-use Rattle.std.proofs.Common.{◌≡◌, ◌-◌, [], length, take, sym, ap, ◌∙◌, subst, lit<, arith, rules}
+use Rattle.std.proofs.Common.{◌≡◌, ◌-◌, [], length, take, sym, ap, ◌∙◌, subst, arith, rules}
 use Rattle.rules.specs.Refusals.{of_fit}
 use Rattle.rules.specs.State.{standing}
 use Rattle.rules.specs.Tree.{empty}
@@ -7,12 +7,6 @@ use Rattle.tree.specs.Standing.{reserve, Whole}
 use Rattle.tree.proofs.Starts.{fit_open, started}
 use Rattle.tree.proofs.Writes.{put_length}
 use Rattle.tree.proofs.index.Index.start.Goals as goal
-
-pub padded-requires : goal.padded-requires
-padded-requires c = (lit< tt, (fit_open c.args.plan.now c.args.capacity c.boxes.result (sym c.in_ok-fit.ensures)).axes)
-
-pub invariant_of-result : goal.invariant_of-result
-invariant_of-result c = record { within = omega (arith, c.args.table.room, c.args.table.long) }
 
 pub invariant_of-result-2 : goal.invariant_of-result-2
 invariant_of-result-2 c =

@@ -1,9 +1,9 @@
-use Rattle.std.proofs.Common.{◌-◌, length, refl, arith}
+use Rattle.std.proofs.Common.{◌-◌, length, arith}
 use Rattle.rules.specs.Tree.{rows_in}
 use Rattle.rules.proofs.Times.{listed_some}
 use Rattle.tree.specs.Seen.{plan_of, tree_in}
 use Rattle.tree.proofs.Changes.{whole_empty}
-use Rattle.tree.proofs.Wholes.{whole_of, ask_withdraw, ask_rows, withdraw_done, left_whole, same_plan, same_tree, same_boxes, same_whole}
+use Rattle.tree.proofs.Wholes.{whole_of, ask_withdraw, ask_rows, left_whole, same_whole}
 use Rattle.tree.proofs.index.Index.withdraw_one.Goals as goal
 
 pub withdraw-self-requires : goal.withdraw-self-requires
@@ -29,23 +29,3 @@ invariant_of-self-else-self-eq0 c =
     let dims = c.withdraw-self.ensures.dims in let withdrew = c.withdraw-self.ensures.withdrew in
     let w = left_whole x M.places.items G.places.items c.args.number G.used r.height r.place withdrew c.requires.listed in
     record { long = x.long; some = omega (arith, x.some, dims); whole = ∣ same_whole x M dims G (x.clips - 1) x.highest r w ∣₁ }
-
-pub returns-then-self-eq0 : goal.returns-then-self-eq0
-returns-then-self-eq0 c =
-    let x = c.args.self.now in let M = c.withdraw-self.new.self in let G = c.withdraw-self.new.free in let r = c.withdraw-self.result in
-    let dims = c.withdraw-self.ensures.dims in let withdrew = c.withdraw-self.ensures.withdrew in
-    let p = withdraw_done x M.places.items G.places.items c.args.number G.used r.height r.place withdrew in
-    record {
-      stays = record { plan = same_plan x M dims; capacity = refl; boxes = same_boxes x M dims p.long };
-      tree = same_tree x M dims r _ p.tree;
-    }
-
-pub returns-else-self-eq0 : goal.returns-else-self-eq0
-returns-else-self-eq0 c =
-    let x = c.args.self.now in let M = c.withdraw-self.new.self in let G = c.withdraw-self.new.free in let r = c.withdraw-self.result in
-    let dims = c.withdraw-self.ensures.dims in let withdrew = c.withdraw-self.ensures.withdrew in
-    let p = withdraw_done x M.places.items G.places.items c.args.number G.used r.height r.place withdrew in
-    record {
-      stays = record { plan = same_plan x M dims; capacity = refl; boxes = same_boxes x M dims p.long };
-      tree = same_tree x M dims r _ p.tree;
-    }

@@ -6,4 +6,4 @@ abbrev pub decreases-copy_clips : goal.decreases-copy_clips
 decreases-copy_clips l = l.height
 
 abbrev pub invariant-loop-entry : goal.invariant-loop-entry
-invariant-loop-entry l = Copying l.self.places.items (l.height - 1) l.entries l.initial.out l.out l.n l.many l.entry-index
+invariant-loop-entry l = Copying l.self.places.items (l.height - 1) l.entries l.initial.out l.out l.many l.entry-index

@@ -1,19 +1,9 @@
-use Rattle.std.proofs.Common.{◌≡◌, ℕ, List, ◌<◌, length, get_or, take, ap, ◌∙◌, subst, arith, rules}
+use Rattle.std.proofs.Common.{◌≡◌, ℕ, List, ◌<◌, length, get_or, take, ap, ◌∙◌, subst, arith}
 use Rattle.std.proofs.lemmas.List.{length-take}
 use Rattle.rules.specs.Choice.{chosen}
-use Rattle.tree.specs.declared.node.Node.{Node}
 use Rattle.tree.specs.Nodes.{node, inside, place_of, place_in, boxes_of, no_entry}
-use Rattle.tree.proofs.ReadNodes.{read, read_entries}
+use Rattle.tree.proofs.ReadNodes.{read_entries}
 use Rattle.tree.proofs.nodes.Nodes.choose_child.Goals as goal
-
-pub choose-place-requires-clause-some : goal.choose-place-requires-clause-some
-choose-place-requires-clause-some c =
-    let e = ap (λ (n : Node). n.len) (read c.args.self.now.places.items c.args.at.place c.index.result.now c.requires.sound.0 c.index.ensures) in
-    let nine : length c.boxes_of-boxes.result ≡ 9 = search rules in
-    omega (arith, c.requires.some, e, c.entries-entries.ensures.long, c.index.result.now.few, length-take {A = List ℕ} (length c.entries-entries.result.now) c.boxes_of-boxes.result)
-
-pub bounds-entries-place : goal.bounds-entries-place
-bounds-entries-place c = omega (arith, c.choose-place.ensures.within, length-take {A = List ℕ} (length c.entries-entries.result.now) c.boxes_of-boxes.result)
 
 pub returns : goal.returns
 unfolding place_of

@@ -1,17 +1,8 @@
-use Rattle.std.proofs.Common.{◌≡◌, ◌+◌, length, get_or, refl, sym, ap, ◌∙◌, subst, subst₂, arith}
+use Rattle.std.proofs.Common.{◌+◌, length, get_or, sym, ap, ◌∙◌, subst, subst₂, arith}
 use Rattle.tree.specs.Leaving.{EachOnce, EnteredClip}
-use Rattle.tree.specs.Standing.{rows_of, EnteredAgain}
-use Rattle.tree.proofs.Standings.{stands_used, by_lettered, again_start, again_step}
+use Rattle.tree.specs.Standing.{rows_of}
+use Rattle.tree.proofs.Standings.{stands_used, by_lettered, again_step}
 use Rattle.tree.proofs.nodes.Nodes.enter_again.Goals as goal
-
-pub loop-k-init : goal.loop-k-init
-loop-k-init c =
-    let F = c.args.free.now in let W = c.args.worklist.now in
-    record {
-      dims = refl;
-      free = refl;
-      entered = again_start c.args.self.now.dims c.args.self.now.places.items F.places.items W.words.now c.args.root.height c.args.root.place W.clips F.used c.requires.stands;
-    }
 
 pub enter_clip-after-requires : goal.enter_clip-after-requires
 enter_clip-after-requires c =
@@ -38,14 +29,4 @@ loop-k-preserved c =
       free = c.enter_clip-after.ensures.free ∙ old.free;
       entered = again_step d N F.places.items W.words.now h i W.clips M L c.loop-k.k G.used g j H.used out.height out.place c.ordered_at.result
           (omega arith) (omega (arith, c.requires.words)) old.entered c.ordered_at.ensures entered;
-    }
-
-pub returns : goal.returns
-returns c =
-    let d = c.args.self.now.dims in let N = c.args.self.now.places.items in let F = c.args.free.now in let W = c.args.worklist.now in let h = c.args.root.height in let i = c.args.root.place in
-    let all : c.loop-k.k ≡ c.args.worklist.now.clips = omega arith in
-    record {
-      entered = subst (λ k. EnteredAgain d N c.loop-k.self.places.items F.places.items W.words.now h i W.clips k c.loop-k.free.used c.loop-k.after.height c.loop-k.after.place) all c.loop-k.invariant.entered;
-      dims = c.loop-k.invariant.dims;
-      free = c.loop-k.invariant.free;
     }

@@ -1,34 +1,11 @@
 use Rattle.std.proofs.Common.{◌≡◌, ℕ, suc, ◌+◌, [], ◌∷◌, get_or, sym, subst, subst₂, add-one, arith}
-use Rattle.std.specs.List.{AllByRecursion}
-use Rattle.tree.specs.Nodes.{Sound, Written, EnteredRoot, spot}
+use Rattle.tree.specs.Nodes.{Written, EnteredRoot, spot}
 use Rattle.tree.proofs.Siblings.{held_more}
-use Rattle.tree.proofs.EntersRoot.{rose_one, rose_two, pair_sound}
+use Rattle.tree.proofs.EntersRoot.{rose_two}
 use Rattle.tree.proofs.nodes.Nodes.enter_root.Goals as goal
 
-pub enter_below-used-requires : goal.enter_below-used-requires
-enter_below-used-requires c =
-    record {
-      clip = c.requires.clip;
-      sound = c.requires.sound;
-      room = omega (arith, c.requires.room);
-      spares = c.requires.spares;
-      apart = λ k. omega (arith, c.requires.apart k, held_more c.args.spare.now (suc c.args.root.height) k c.requires.room);
-    }
-
-pub returns-then-used-root-clause-entered : goal.returns-then-used-root-clause-entered
-returns-then-used-root-clause-entered c = rose_one c.args.self.now.dims c.args.self.now.places.items c.enter_below-used.new.self.places.items c.args.spare.now c.args.root.height c.args.root.place c.args.clip c.enter_below-used.result c.enter_below-used.ensures.entered c.if-used-root.true
-
-pub write-requires : goal.write-requires
-write-requires c =
-    let all : c.enter_below-used.result ≡ suc c.args.root.height = omega (arith, c.enter_below-used.ensures.entered.used, c.if-used-root.false) in
-    let m = add-one c.args.root.height in
-    let q = pair_sound c.args.self.now.dims c.args.self.now.places.items c.enter_below-used.new.self.places.items c.args.spare.now c.args.root.height c.args.root.place c.args.clip c.enter_below-used.result c.enter_below-used.ensures.entered all c.requires.room (c.requires.spares (suc c.args.root.height) c.requires.room) c.requires.apart in
-    let P : ℕ → Type 0 = λ n. AllByRecursion (Sound c.enter_below-used.new.self.places.items n) (spot c.args.root.place ∷ spot (get_or c.args.spare.now c.args.root.height 0) ∷ []) in
-    record {
-      few = omega arith;
-      sound = subst P (sym m) q;
-      within = omega (arith, c.requires.spares (c.args.root.height + 1) (omega (arith, c.requires.room)), c.enter_below-used.ensures.entered.long);
-    }
+pub enter_below-used-requires-clause-apart : goal.enter_below-used-requires-clause-apart
+enter_below-used-requires-clause-apart c = λ k. omega (arith, c.requires.apart k, held_more c.args.spare.now (suc c.args.root.height) k c.requires.room)
 
 pub returns-clause-entered : goal.returns-clause-entered
 returns-clause-entered c =

@@ -7,14 +7,6 @@ use Rattle.tree.proofs.WithdrawsRoot.{root_in, sunk_leaf, sunk_wide, ask_lower, 
 use Rattle.tree.proofs.nodes.Nodes.withdraw_root.Goals as goal
 use Rattle.tree.proofs.nodes.Nodes.withdraw_root.Goals.{then-root-eq0-via-then-root-eq0, then-root-eq0-via-else-root-eq0+then-index-ne1}
 
-pub index-requires : goal.index-requires
-index-requires c =
-    let d = c.args.self.now.dims in let N = c.args.self.now.places.items in let i = c.args.root.place in let h = c.args.root.height in
-    let W = c.args.worklist.now in let F = c.args.free.now in let M = c.withdraw_below.new.self.places.items in let V = c.withdraw_below.new.worklist in let G = c.withdraw_below.new.free in
-    let taken = c.withdraw_below.ensures.withdrawn in
-    let in-M = root_in d N M h i c.args.number W.words.now V.words.now W.clips V.clips F.places.items G.places.items F.used G.used taken (sound_parts N h i c.requires.sound).0 in
-    omega (arith, in-M, c.withdraw_below.new.self.places.ok.0)
-
 pub returns-then-root-eq0-clause-withdrawn : goal.returns-then-root-eq0-clause-withdrawn
 returns-then-root-eq0-clause-withdrawn c =
     let d = c.args.self.now.dims in let N = c.args.self.now.places.items in let i = c.args.root.place in let h = c.args.root.height in
@@ -37,16 +29,6 @@ put_back-requires c =
     let one = sym (ap (λ (n : Node). n.len) (read M i c.index.result.now in-M c.index.ensures)) ∙ c.if-index-ne1.false in
     let stack : c.args.free.now.used ≤ length c.args.free.now.places.items = omega (arith, F.within, F.places.ok.0) in
     (ask_lower d N M h i c.args.number W.words.now V.words.now W.clips V.clips F.places.items G.places.items F.used G.used one stack c.if-root-eq0.false taken c.requires.room.1).0
-
-pub child_of-requires : goal.child_of-requires
-child_of-requires c =
-    let d = c.args.self.now.dims in let N = c.args.self.now.places.items in let i = c.args.root.place in let h = c.args.root.height in
-    let W = c.args.worklist.now in let F = c.args.free.now in let M = c.withdraw_below.new.self.places.items in let V = c.withdraw_below.new.worklist in let G = c.withdraw_below.new.free in
-    let taken = c.withdraw_below.ensures.withdrawn in
-    let in-M = root_in d N M h i c.args.number W.words.now V.words.now W.clips V.clips F.places.items G.places.items F.used G.used taken (sound_parts N h i c.requires.sound).0 in
-    let one = sym (ap (λ (n : Node). n.len) (read M i c.index.result.now in-M c.index.ensures)) ∙ c.if-index-ne1.false in
-    let stack : c.args.free.now.used ≤ length c.args.free.now.places.items = omega (arith, F.within, F.places.ok.0) in
-    record { within = in-M; place = omega (arith, one, taken.full) }
 
 pub returns-clause-withdrawn : goal.returns-clause-withdrawn
 returns-clause-withdrawn c =
