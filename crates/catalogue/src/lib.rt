@@ -8,6 +8,8 @@ mod guard;
 mod loading;
 mod reading;
 mod replaying;
+#[cfg(test)]
+mod tests;
 
 pub use call::Call;
 pub use catalogue::Catalogue;
