@@ -1,35 +1,41 @@
 -- The first line feed of a text.
-use Rattle.std.proofs.Common.{◌≡◌, ℕ, ◌+◌, ◌<◌, ◌≤◌, true, false, cond, eqb, List, [], ◌∷◌, ◌++◌, length, get_or, take, drop, Some, None, sym, refl, ap, ◌∙◌, ⊎_elim, MatchOption}
-use Rattle.std.proofs.lemmas.List.{append-nil, append_assoc, drop_more, drop_all, take_more, take_all}
-use Rattle.std.proofs.lemmas.Bool.{cases_Bool, eqb-true, eqb-false, eq-eqb, ne_eqb}
+use Rattle.std.proofs.Common.{◌≡◌, ℕ, ◌+◌, ◌-◌, Bool, true, false, eqb, List, [], ◌∷◌, ◌++◌, length, take, drop, Some, None, refl, ap, ⊎_elim, MatchOption, arith}
+use Rattle.std.proofs.lemmas.Grind.{common_steps}
+use Rattle.std.proofs.lemmas.List.{take_rest}
+use Rattle.std.specs.List.{before_first, position}
+use Rattle.std.specs.Option.{option_map}
+use Rattle.std.proofs.lemmas.Bool.{cases_Bool, eqb-true, eqb-false}
 use Rattle.lines.specs.Lines.{line_of, rest_of}
 use Rattle.lines.specs.LawsLines.{Plain, LinesLaw}
 
--- ---- a loop that looks for the line feed: what stands before i has none
-pub line_more : (s : List ℕ) (i : ℕ) → i < length s → (get_or s i 0 ≡ 10 → ⊥) → take (i + 1) s ++ line_of (drop (i + 1) s) ≡ take i s ++ line_of (drop i s)
-line_more s i h k =
-    ap (λ t. t ++ line_of (drop (i + 1) s)) (take_more s i 0 h)
-    ∙ append_assoc (take i s) (get_or s i 0 ∷ []) (line_of (drop (i + 1) s))
-    ∙ ap (λ t. take i s ++ t) (sym (ap line_of (drop_more s i 0 h) ∙ ap (λ b. cond b [] (get_or s i 0 ∷ line_of (drop (i + 1) s))) (ne_eqb (get_or s i 0) 10 k)))
+abbrev pub feed : ℕ → Bool
+feed b = eqb b 10
 
-pub rest_more : (s : List ℕ) (i : ℕ) → i < length s → (get_or s i 0 ≡ 10 → ⊥) → rest_of (drop (i + 1) s) ≡ rest_of (drop i s)
-rest_more s i h k =
-    sym (ap rest_of (drop_more s i 0 h) ∙ ap (λ b. cond b (Some (drop (i + 1) s)) (rest_of (drop (i + 1) s))) (ne_eqb (get_or s i 0) 10 k))
+-- ---- the line feed stands at its first position: the line is what is before it, and the rest what is behind it
+pub line_before : (s : List ℕ) → line_of s ≡ before_first feed s
+line_before [] = refl
+line_before (b ∷ s) =
+    ⊎_elim
+    (λ (e : eqb b 10 ≡ true). rw e refl)
+    (λ (e : eqb b 10 ≡ false). rw e (grind (arith, common_steps, line_before s)))
+    (cases_Bool (eqb b 10))
 
-pub line_here : (s : List ℕ) (i : ℕ) → i < length s → get_or s i 0 ≡ 10 → take i s ++ line_of (drop i s) ≡ take i s
-line_here s i h e =
-    ap (λ t. take i s ++ t) (ap line_of (drop_more s i 0 h) ∙ ap (λ b. cond b [] (get_or s i 0 ∷ line_of (drop (i + 1) s))) (eq-eqb (get_or s i 0) 10 e))
-    ∙ append-nil (take i s)
+pub rest_after : (s : List ℕ) → rest_of s ≡ option_map (λ i. drop (i + 1) s) (position feed s)
+rest_after [] = refl
+rest_after (b ∷ s) =
+    ⊎_elim
+    (λ (e : eqb b 10 ≡ true). rw e (grind (arith, common_steps)))
+    (λ (e : eqb b 10 ≡ false). rw e (grind (arith, common_steps, rest_after s)))
+    (cases_Bool (eqb b 10))
 
-pub rest_here : (s : List ℕ) (i : ℕ) → i < length s → get_or s i 0 ≡ 10 → rest_of (drop i s) ≡ Some (drop (i + 1) s)
-rest_here s i h e =
-    ap rest_of (drop_more s i 0 h) ∙ ap (λ b. cond b (Some (drop (i + 1) s)) (rest_of (drop (i + 1) s))) (eq-eqb (get_or s i 0) 10 e)
+-- what the code lends is the rest, taken whole
+pub rest_there : (s : List ℕ) (i : ℕ) → position feed s ≡ Some i → Some (take (length s - (i + 1)) (drop (i + 1) s)) ≡ rest_of s
+rest_there s i e = grind (arith, common_steps, rest_after s, take_rest s (i + 1))
 
-pub line_none : (s : List ℕ) (i : ℕ) → length s ≤ i → take i s ++ line_of (drop i s) ≡ s
-line_none s i h = ap (λ t. take i s ++ line_of t) (drop_all i s h) ∙ append-nil (take i s) ∙ take_all i s h
+pub line_whole : (s : List ℕ) → position feed s ≡ None → s ≡ line_of s
+line_whole s e = grind (arith, common_steps, line_before s)
 
-pub rest_none : (s : List ℕ) (i : ℕ) → length s ≤ i → rest_of (drop i s) ≡ None
-rest_none s i h = ap rest_of (drop_all i s h)
+pub ruleset cuts = (line_before, rest_after, rest_there, line_whole)
 
 -- ---- what a line is
 plain : (s : List ℕ) → Plain (line_of s)

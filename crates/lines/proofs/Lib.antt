@@ -1,4 +1,3 @@
 mod Cuts
-mod Readings
 mod Values
 mod Texts

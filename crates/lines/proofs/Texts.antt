@@ -61,17 +61,17 @@ all_read (f ∷ fs) (h, hs) = field_read f (spaced fs) h ∙ rest_read (value_of
 
 first_parts : (v : Option ℕ) (r : Option (List ℕ)) (ns : List ℕ) → first v r ≡ Some ns
     → (n : ℕ) × (ms : List ℕ) × (v ≡ Some n) × (r ≡ Some ms) × (ns ≡ n ∷ ms)
-first_parts None r ns e = absurd (let z : ◌≡◌ {A = ℕ} 0 1 = cc in omega arith)
-first_parts (Some n) None ns e = absurd (let z : ◌≡◌ {A = ℕ} 0 1 = cc in omega arith)
+first_parts None r ns e = cc
+first_parts (Some n) None ns e = cc
 first_parts (Some n) (Some ms) ns e = (n, ms, refl, refl, cc)
 
 onward_parts : (o : Option ℕ) (f : ℕ → Option (List ℕ)) (ns : List ℕ) → onward o f ≡ Some ns → (m : ℕ) × (o ≡ Some m) × (f m ≡ Some ns)
-onward_parts None f ns e = absurd (let z : ◌≡◌ {A = ℕ} 0 1 = cc in omega arith)
+onward_parts None f ns e = cc
 onward_parts (Some m) f ns e = (m, refl, e)
 
 given_parts : (t : Bool) (o : Option ℕ) (m : ℕ) → cond t o None ≡ Some m → (t ≡ true) × (o ≡ Some m)
 given_parts true o m e = (refl, e)
-given_parts false o m e = absurd (let z : ◌≡◌ {A = ℕ} 0 1 = cc in omega arith)
+given_parts false o m e = cc
 
 longer_parts : (v : Option ℕ) (b m : ℕ) → longer v b ≡ Some m → (digit b ≡ true) × (m ≡ unwrap_or v 0 * 10 + (b - 48)) × (m < 2 ^ 32)
 longer_parts v b m e =
@@ -102,11 +102,11 @@ whole_field bs ns s =
     ((s.good, s.some refl, h), s.values ∙ ap (λ n. n ∷ map value_of s.fields) e)
 
 at_end : (v : Option ℕ) (ns : List ℕ) → unwrap_or v 0 < 2 ^ 32 → first v (Some []) ≡ Some ns → Split v [] ns
-at_end None ns h e = absurd (let z : ◌≡◌ {A = ℕ} 0 1 = cc in omega arith)
+at_end None ns h e = cc
 at_end (Some n) ns h e =
     let x = extended_none n in
     let y : ns ≡ n ∷ [] = cc in
-    record { digits = []; fields = []; text = refl; good = tt; some = λ z. absurd (let q : ◌≡◌ {A = ℕ} 0 1 = cc in omega arith); fits = omega arith; proper = tt; values = y ∙ ap (λ m. m ∷ []) (sym x) }
+    record { digits = []; fields = []; text = refl; good = tt; some = λ z. cc; fits = omega arith; proper = tt; values = y ∙ ap (λ m. m ∷ []) (sym x) }
 
 at_space : (v : Option ℕ) (b n : ℕ) (bs ns ms : List ℕ) → unwrap_or v 0 < 2 ^ 32 → b ≡ 32 → v ≡ Some n → ns ≡ n ∷ ms → Split None bs ms → Split v (b ∷ bs) ns
 at_space v b n bs ns ms h e f g s =
@@ -118,7 +118,7 @@ at_space v b n bs ns ms h e f g s =
       fields = s.digits ∷ s.fields;
       text = cc s.text;
       good = tt;
-      some = λ z. absurd (let q : ◌≡◌ {A = ℕ} 0 1 = cc in omega arith);
+      some = λ z. cc;
       fits = omega arith;
       proper = (w.0, s.proper);
       values = g ∙ cc w.1;
@@ -162,7 +162,7 @@ only_read (b ∷ bs) ns e =
     (s.digits ∷ s.fields, (w.0, s.proper), cc s.text, sym w.1))
     (λ (t : eqb b 32 ≡ false).
     let z : None ≡ Some ns = rw t at e in
-    absurd (let q : ◌≡◌ {A = ℕ} 0 1 = cc in omega arith))
+    cc)
     (cases_Bool (eqb b 32))
 
 pub fields_law : FieldsLaw

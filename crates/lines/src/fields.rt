@@ -35,14 +35,11 @@ impl<T: Drop> From<AllocFailed<T>> for FieldsError {
 fn lengthen(value: Option<u32>, byte: u8) -> Option<u32>
     ensures { result ≡ longer value byte }
 {
-    if byte < b'0' || byte > b'9' {
+    if !byte.is_ascii_digit() {
         return None;
     }
-    let longer = u64::from(value.unwrap_or(0)) * 10 + u64::from(byte - b'0');
-    if longer > u64::from(u32::MAX) {
-        return None;
-    }
-    Some(longer as u32)
+    let shifted = value.unwrap_or(0).checked_mul(10)?;
+    shifted.checked_add(u32::from(byte - b'0'))
 }
 
 // The fields of a text that begins right after the space before the first.
@@ -54,22 +51,14 @@ fn read_spaced(heap: Global, text: &[u8]) -> Result<Vec<u32>, FieldsError>
     let mut value = None;
     for byte in text {
         if *byte == SPACE {
-            let Some(whole) = value else {
-                return Err(FieldsError::Malformed);
-            };
-            fields.push(whole)?;
+            fields.push(value.ok_or(FieldsError::Malformed)?)?;
             value = None;
         } else {
-            let Some(longer) = lengthen(value, *byte) else {
-                return Err(FieldsError::Malformed);
-            };
+            let longer = lengthen(value, *byte).ok_or(FieldsError::Malformed)?;
             value = Some(longer);
         }
     }
-    let Some(last) = value else {
-        return Err(FieldsError::Malformed);
-    };
-    fields.push(last)?;
+    fields.push(value.ok_or(FieldsError::Malformed)?)?;
     Ok(fields)
 }
 

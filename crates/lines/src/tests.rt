@@ -4,10 +4,7 @@ use std::test::Fail;
 
 // What is wrong with a text; none where it has fields.
 fn fault(rt: &HostRuntime, text: &[u8]) -> Option<FieldsError> {
-    match read_fields(rt.alloc(), text) {
-        Ok(_) => None,
-        Err(e) => Some(e),
-    }
+    read_fields(rt.alloc(), text).err()
 }
 
 #[test]
