@@ -5,6 +5,7 @@ ghost use Rattle.lines.specs.declared.fields.FieldsError.TheVariants.{Malformed,
 ghost use Rattle.std.specs.Prelude.{◌≡◌, Some, None, MatchResult};
 
 use std::alloc::{AllocError, AllocFailed, Global};
+use std::num::TryFromIntError;
 
 const SPACE: u8 = b' ';
 
@@ -28,6 +29,15 @@ impl<T: Drop> From<AllocFailed<T>> for FieldsError {
 
     fn from(_e: AllocFailed<T>) -> FieldsError {
         FieldsError::Memory
+    }
+}
+
+// A number that is no value of its type is no field.
+impl From<TryFromIntError> for FieldsError {
+    ghost from_gives = { λ _ r. r ≡ Malformed };
+
+    fn from(_e: TryFromIntError) -> FieldsError {
+        FieldsError::Malformed
     }
 }
 

@@ -1,4 +1,3 @@
-mod Bytes
 mod Listings
 mod Checks
 mod Findings

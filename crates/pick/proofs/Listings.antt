@@ -1,12 +1,12 @@
 -- Rows of distinct numbers, each a clip of the plan.
-use Rattle.std.proofs.Common.{◌≡◌, ℕ, zero, suc, ◌+◌, ◌<◌, ◌≤◌, Bool, true, false, cond, not, ◌&&◌, ◌||◌, eqb, List, [], ◌∷◌, ◌++◌, length, get_or, drop, is_some, Some, None, vec_items, sym, refl, ap, ◌∙◌, subst, arith}
-use Rattle.std.proofs.lemmas.Bool.{and_parts, and_from, or_parts, or_from, not-true, not_from_false, eqb-false, ne_eqb, eq-eqb, both_ways}
+use Rattle.std.proofs.Common.{◌≡◌, ℕ, zero, suc, ◌<◌, ◌≤◌, Bool, true, false, cond, not, ◌&&◌, ◌||◌, eqb, List, [], ◌∷◌, ◌++◌, length, get_or, is_some, Some, None, vec_items, sym, refl, ap, subst, arith}
+use Rattle.std.proofs.lemmas.Bool.{and_parts, and_from, or_parts, or_from, not-true, not_from_false, eqb-false, ne_eqb, both_ways}
 use Rattle.space.specs.Plans.{clip_fault, vector_fault}
 use Rattle.space.specs.Row.{Row, row_of, rows_of}
 use Rattle.space.specs.declared.clip.Clip.{Clip}
-use Rattle.space.proofs.Steps.{one_more, one_all}
 use Rattle.space.specs.declared.plan.ClipFault.TheVariants as clip
 use Rattle.std.proofs.lemmas.List.{length_push, map_push}
+use Rattle.std.specs.List.{list_any}
 use Rattle.rules.specs.Finds.{Once}
 use Rattle.measures.specs.Counts.{of_plan}
 use Rattle.pick.specs.Rows.{proper, listed, distinct}
@@ -79,19 +79,10 @@ held_push plan rs r h e n l =
     let k = length_push rs r in
     record { fits_plan = proper_push plan rs r h.fits_plan e; once = distinct_push rs r h.once n; few = omega arith }
 
--- ---- the loop that looks for a number
-module _ (n : ℕ) (clips : List Clip) (i : ℕ) (c : Clip) (h : i < length clips) (at : c ≡ get_or clips i c) where
-  seen : listed n (rows_of (drop i clips)) ≡ (eqb c.number n || listed n (rows_of (drop (i + 1) clips)))
-  seen = one_more (λ cs. listed n (rows_of cs)) clips c i h ∙ ap (λ d. eqb d.number n || listed n (rows_of (drop (i + 1) clips))) (sym at)
-
-  pub listed_more : (c.number ≡ n → ⊥) → listed n (rows_of (drop (i + 1) clips)) ≡ listed n (rows_of (drop i clips))
-  listed_more k = sym (seen ∙ ap (λ t. t || listed n (rows_of (drop (i + 1) clips))) (ne_eqb c.number n k))
-
-  pub listed_here : c.number ≡ n → listed n (rows_of (drop i clips)) ≡ true
-  listed_here e = seen ∙ ap (λ t. t || listed n (rows_of (drop (i + 1) clips))) (eq-eqb c.number n e)
-
-pub listed_none : (n : ℕ) (clips : List Clip) (i : ℕ) → length clips ≤ i → listed n (rows_of (drop i clips)) ≡ false
-listed_none n clips i h = one_all (λ cs. listed n (rows_of cs)) clips i h
+-- the numbers of clips are looked through as those of their rows are
+pub listed_any : (n : ℕ) (clips : List Clip) → listed n (rows_of clips) ≡ list_any (λ (c : Clip). eqb c.number n) clips
+listed_any n [] = refl
+listed_any n (c ∷ cs) = ap (λ t. eqb c.number n || t) (listed_any n cs)
 
 -- ---- what a push leaves: one clip more, or the clips that were there
 pub push_held : (plan : List ℕ) (cs new : List Clip) (x : Clip) (b : Bool) → new ≡ cond b (cs ++ (x ∷ [])) cs → Held plan (rows_of cs)

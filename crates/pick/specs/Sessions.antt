@@ -13,7 +13,6 @@ use Rattle.pick.specs.declared.refusal.Trouble.TheVariants.{Refused, Memory}
 use Rattle.pick.specs.declared.reply.Reply.{Reply}
 use Rattle.pick.specs.declared.reply.Reply.TheVariants as reply
 use Rattle.pick.specs.declared.session.Session.{Session}
-use Rattle.pick.specs.declared.session.Session.TheVariants.{Bare, Open}
 
 -- a refusal changes nothing
 abbrev pub Kept : Session → Session → Trouble → Type 0
@@ -21,19 +20,19 @@ Kept old new (Refused e) = new ≡ old
 Kept old new Memory = Unit {0}
 
 -- 20: without a plan; else by the library
-abbrev pub fault_in : Session → (Library → Option Refusal) → Option Refusal
-fault_in Bare f = Some refusal.NoPlan
-fault_in (Open l) f = f l
+abbrev pub fault_in : Option Library → (Library → Option Refusal) → Option Refusal
+fault_in None f = Some refusal.NoPlan
+fault_in (Some l) f = f l
 
 -- a library before and after
-abbrev pub Within : Session → Session → (Library → Library → Type 0) → Type 0
-Within Bare new P = ⊥
-Within (Open l) Bare P = ⊥
-Within (Open l) (Open m) P = P l m
+abbrev pub Within : Option Library → Option Library → (Library → Library → Type 0) → Type 0
+Within None new P = ⊥
+Within (Some l) None P = ⊥
+Within (Some l) (Some m) P = P l m
 
-abbrev pub Opened : Session → (Library → Type 0) → Type 0
-Opened Bare P = ⊥
-Opened (Open l) P = P l
+abbrev pub Opened : Option Library → (Library → Type 0) → Type 0
+Opened None P = ⊥
+Opened (Some l) P = P l
 
 -- where it is refused: for the reason that the rules give, and with nothing changed
 abbrev pub Stops : Option Refusal → Session → Session → Trouble → Type 0
@@ -41,18 +40,18 @@ Stops fault old new e = Refuses fault e × Kept old new e
 
 abbrev pub Begins : List ℕ → Session → Session → Result Reply Trouble → Type 0
 Begins sizes old new r =
-    MatchResult r (λ y. (y ≡ reply.Begun (length sizes)) × Opened new (Begun sizes)) (Stops (option_map refusal.Plan (plan_fault sizes)) old new)
+    MatchResult r (λ y. (y ≡ reply.Begun (length sizes)) × Opened new.library (Begun sizes)) (Stops (option_map refusal.Plan (plan_fault sizes)) old new)
 
 abbrev pub Lists : ℕ → List ℕ → Session → Session → Result Reply Trouble → Type 0
 Lists n v old new r =
-    MatchResult r (λ y. (y ≡ reply.Listed n) × Within old new (λ l m. (list_fault l n v ≡ None) × Listed l m n v)) (Stops (fault_in old (λ l. list_fault l n v)) old new)
+    MatchResult r (λ y. (y ≡ reply.Listed n) × Within old.library new.library (λ l m. (list_fault l n v ≡ None) × Listed l m n v)) (Stops (fault_in old.library (λ l. list_fault l n v)) old new)
 
 abbrev pub Bars : ℕ → ℕ → Session → Session → Result Reply Trouble → Type 0
 Bars d x old new r =
-    MatchResult r (λ y. (y ≡ reply.Barred d x) × Within old new (λ l m. (bar_fault l d x ≡ None) × Barred l m d x)) (Stops (fault_in old (λ l. bar_fault l d x)) old new)
+    MatchResult r (λ y. (y ≡ reply.Barred d x) × Within old.library new.library (λ l m. (bar_fault l d x ≡ None) × Barred l m d x)) (Stops (fault_in old.library (λ l. bar_fault l d x)) old new)
 
 abbrev pub Cuts : ℕ → Session → Session → Result Reply Trouble → Type 0
-Cuts n old new r = MatchResult r (λ y. (y ≡ reply.CutOff n) × Within old new (λ l m. CutAt l m n)) (Stops (fault_in old (λ l. None)) old new)
+Cuts n old new r = MatchResult r (λ y. (y ≡ reply.CutOff n) × Within old.library new.library (λ l m. CutAt l m n)) (Stops (fault_in old.library (λ l. None)) old new)
 
 -- what a query is answered with
 abbrev pub Found : Library → ℕ → List ℕ → Reply → Type 0
@@ -63,7 +62,7 @@ Found l k q (reply.CutOff n) = ⊥
 Found l k q (reply.Found a) = Answers l k q a
 
 abbrev pub Asks : ℕ → List ℕ → Session → Result Reply Trouble → Type 0
-Asks k q s r = MatchResult r (λ y. Opened s (λ l. Found l k q y)) (Refuses (fault_in s (λ l. ask_fault l k q)))
+Asks k q s r = MatchResult r (λ y. Opened s.library (λ l. Found l k q y)) (Refuses (fault_in s.library (λ l. ask_fault l k q)))
 
 abbrev pub Obeys : Said → Session → Session → Result Reply Trouble → Type 0
 Obeys (plan sizes) old new r = Begins sizes old new r

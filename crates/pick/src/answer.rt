@@ -19,31 +19,25 @@ pub struct Answer {
     pub barred: Vec<Find>,
 }
 
-// Finds in their order, or that there are none.
-fn show_finds<W: fmt::Write>(finds: &[Find], f: &mut fmt::Formatter<W>) -> fmt::Result {
-    if finds.is_empty() {
-        return write!(f, " none");
+impl fmt::Display for Graded {
+    fn fmt<W: fmt::Write>(&self, f: &mut fmt::Formatter<W>) -> fmt::Result {
+        let find = self.find;
+        let grade = self.grade;
+        write!(f, "{find} (grade {grade})")
     }
-    for (i, find) in finds.iter().enumerate() {
-        let comma = if i == 0 { "" } else { "," };
-        let clip = find.clip;
-        let distance = find.distance;
-        write!(f, "{comma} clip {clip} at {distance}")?;
-    }
-    Ok(())
 }
 
-// The same, each with its grade.
-fn show_graded<W: fmt::Write>(finds: &[Graded], f: &mut fmt::Formatter<W>) -> fmt::Result {
-    if finds.is_empty() {
+// The finds in their order, or that there are none.
+fn show_list<T: fmt::Display, W: fmt::Write>(
+    finds: &[T],
+    f: &mut fmt::Formatter<W>,
+) -> fmt::Result {
+    let [first, others @ ..] = finds else {
         return write!(f, " none");
-    }
-    for (i, graded) in finds.iter().enumerate() {
-        let comma = if i == 0 { "" } else { "," };
-        let clip = graded.find.clip;
-        let distance = graded.find.distance;
-        let grade = graded.grade;
-        write!(f, "{comma} clip {clip} at {distance} (grade {grade})")?;
+    };
+    write!(f, " {first}")?;
+    for find in others {
+        write!(f, ", {find}")?;
     }
     Ok(())
 }
@@ -57,10 +51,10 @@ impl fmt::Display for Answer {
         let clips = self.clips;
         write!(f, ", clips in the library: {clips}")?;
         write!(f, "\n  hamming:")?;
-        show_finds(&self.hamming, f)?;
+        show_list(&self.hamming, f)?;
         write!(f, "\n  geh:    ")?;
-        show_graded(&self.geh, f)?;
+        show_list(&self.geh, f)?;
         write!(f, "\n  barred: ")?;
-        show_finds(&self.barred, f)
+        show_list(&self.barred, f)
     }
 }

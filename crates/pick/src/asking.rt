@@ -26,7 +26,7 @@ fn nearest_finds<M: Measure>(
     clips: &[Clip],
     count: usize,
 ) -> Result<Vec<Find>, AllocError>
-    ensures { IfOk result (λ v. v.items ≡ take count (ranking (far_by (M.Measure.distances measure.now) query.now) (rows_of clips.now))) }
+    ensures { IfOk result (λ v. v.items ≡ take count (ranking (far_by (M.distances measure.now) query.now) (rows_of clips.now))) }
 {
     let mut finds = vec![in heap; Find::default(); count]?;
     let found = nearest(measure, query, clips, &mut finds);
@@ -38,14 +38,13 @@ fn nearest_finds<M: Measure>(
 fn grade_all(heap: Global, geh: &Geh, finds: &[Find]) -> Result<Vec<Graded>, AllocError>
     ensures { IfOk result (λ v. v.items ≡ map (graded geh.now.count.dimensions geh.now.count.total) finds.now) }
 {
-    let mut all = Vec::new(heap);
-    for find in finds {
-        all.push(Graded {
+    finds
+        .iter()
+        .map(|find| Graded {
             find: *find,
             grade: geh.grade(find.distance),
-        })?;
-    }
-    Ok(all)
+        })
+        .collect(heap)
 }
 
 impl Library {
@@ -54,7 +53,7 @@ impl Library {
         ensures { result ≡ unless_fault (ask_fault self.now count query.now) }
     {
         check_vector(&self.plan, query)?;
-        if count < 1 || count > MOST {
+        if !(1..=MOST).contains(&count) {
             return Err(Refusal::Count);
         }
         Ok(())

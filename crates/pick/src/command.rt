@@ -1,7 +1,7 @@
 // What a line asks for.
 ghost use Rattle.lines.specs.Faults.{Faulty};
 ghost use Rattle.pick.specs.Commands.{Reads};
-ghost use Rattle.pick.specs.Said.{all_bytes, bar_said, clip_said, cut_said, near_said, plan_said, said_by, said_of};
+ghost use Rattle.pick.specs.Said.{all_bytes, said_by, said_of};
 ghost use Rattle.space.specs.Boxes.{given};
 ghost use Rattle.std.specs.Prelude.{◌≡◌, Some, MatchResult};
 
@@ -28,68 +28,21 @@ fn read_bytes(heap: Global, fields: &[u32]) -> Result<Vec<u8>, FieldsError>
 {
     let mut bytes = Vec::new(heap);
     for field in fields {
-        if *field > 255 {
-            return Err(FieldsError::Malformed);
-        }
-        bytes.push(*field as u8)?;
+        bytes.push(u8::try_from(*field)?)?;
     }
     Ok(bytes)
 }
 
-fn read_plan(heap: Global, fields: &[u32]) -> Result<Command, FieldsError>
-    ensures { Reads (plan_said fields.now) result }
-{
-    Ok(Command::Plan(read_bytes(heap, fields)?))
-}
-
-fn read_list(heap: Global, fields: &[u32]) -> Result<Command, FieldsError>
-    ensures { Reads (clip_said fields.now) result }
-{
-    let [number, letters @ ..] = fields else {
-        return Err(FieldsError::Malformed);
-    };
-    Ok(Command::List(*number, read_bytes(heap, letters)?))
-}
-
-fn read_bar(fields: &[u32]) -> Result<Command, FieldsError>
-    ensures { Reads (bar_said fields.now) result }
-{
-    let [dimension, letter] = fields else {
-        return Err(FieldsError::Malformed);
-    };
-    if *letter > 255 {
-        return Err(FieldsError::Malformed);
-    }
-    Ok(Command::Bar(*dimension, *letter as u8))
-}
-
-fn read_cut_off(fields: &[u32]) -> Result<Command, FieldsError>
-    ensures { Reads (cut_said fields.now) result }
-{
-    let [limit] = fields else {
-        return Err(FieldsError::Malformed);
-    };
-    Ok(Command::CutOff(*limit))
-}
-
-fn read_nearest(heap: Global, fields: &[u32]) -> Result<Command, FieldsError>
-    ensures { Reads (near_said fields.now) result }
-{
-    let [count, query @ ..] = fields else {
-        return Err(FieldsError::Malformed);
-    };
-    Ok(Command::Nearest(*count, read_bytes(heap, query)?))
-}
-
+// What the fields say after a character.
 fn read_kind(heap: Global, kind: char, fields: &[u32]) -> Result<Command, FieldsError>
     ensures { Reads (said_by kind fields.now) result }
 {
-    match kind {
-        'P' => read_plan(heap, fields),
-        'E' => read_list(heap, fields),
-        'B' => read_bar(fields),
-        'C' => read_cut_off(fields),
-        'N' => read_nearest(heap, fields),
+    match (kind, fields) {
+        ('P', sizes) => Ok(Command::Plan(read_bytes(heap, sizes)?)),
+        ('E', [number, letters @ ..]) => Ok(Command::List(*number, read_bytes(heap, letters)?)),
+        ('B', [dimension, letter]) => Ok(Command::Bar(*dimension, u8::try_from(*letter)?)),
+        ('C', [limit]) => Ok(Command::CutOff(*limit)),
+        ('N', [count, query @ ..]) => Ok(Command::Nearest(*count, read_bytes(heap, query)?)),
         _ => Err(FieldsError::Malformed),
     }
 }
@@ -98,9 +51,7 @@ fn read_kind(heap: Global, kind: char, fields: &[u32]) -> Result<Command, Fields
 pub fn read_command(heap: Global, line: &[u8]) -> Result<Command, FieldsError>
     ensures { Reads (said_of line.now) result }
 {
-    let [kind, text @ ..] = line else {
-        return Err(FieldsError::Malformed);
-    };
+    let (kind, text) = line.split_first().ok_or(FieldsError::Malformed)?;
     let fields = read_fields(heap, text)?;
     read_kind(heap, char::from(*kind), &fields)
 }

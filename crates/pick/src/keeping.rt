@@ -1,27 +1,22 @@
 // What a library keeps.
 ghost use Rattle.pick.specs.Libraries.{Barred, Begun, CutAt, Listed, Refuses, bar_fault, list_fault, Unlisted};
-ghost use Rattle.pick.specs.Rows.{listed};
 ghost use Rattle.space.specs.Plans.{plan_fault, unless_fault};
-ghost use Rattle.space.specs.Row.{rows_of};
-ghost use Rattle.std.specs.Prelude.{◌≡◌, Some, None, MatchResult};
+ghost use Rattle.space.specs.declared.clip.Clip.{Clip};
+ghost use Rattle.std.specs.List.{list_any};
+ghost use Rattle.std.specs.Prelude.{◌==◌, ◌≡◌, Some, None, MatchResult};
 
 use crate::library::Library;
 use crate::refusal::{Refusal, Trouble};
-use space::{Clip, PlanFault, check_clip, check_plan, set_of};
+use space::{Clip, ClipFault, PlanFault, check_clip, check_plan, set_of};
 use std::alloc::Global;
 
 const CAPACITY: usize = 4096;
 
 // Whether a clip with the number is among the clips.
 fn is_listed(clips: &[Clip], number: u32) -> bool
-    ensures { result ≡ listed number (rows_of clips.now) }
+    ensures { result ≡ list_any (λ (c : Clip). c.number == number) clips.now }
 {
-    for clip in clips {
-        if clip.number == number {
-            return true;
-        }
-    }
-    false
+    clips.iter().any(|clip| clip.number == number)
 }
 
 impl Library {
@@ -39,6 +34,7 @@ impl Library {
     }
 
     // Whether a clip can be listed. Else which rule refuses it first.
+    #[tactic(auto, using(crate::proofs::Checks::checks))]
     fn check_new(&self, number: u32, letters: &[u8]) -> Result<(), Refusal>
         ensures { result ≡ unless_fault (list_fault self.now number letters.now) }
     {
@@ -53,6 +49,7 @@ impl Library {
     }
 
     // Lists a clip, behind those that are there.
+    #[tactic(auto, using(crate::proofs::Checks::checks))]
     pub fn list(&mut self, number: u32, letters: Vec<u8>) -> Result<(), Trouble>
         ensures { MatchResult result (λ _. (list_fault self.old number letters.items ≡ None) × Listed self.old self.new number letters.items) (λ e. Refuses (list_fault self.old number letters.items) e × Unlisted self.old self.new e) }
     {
@@ -65,14 +62,13 @@ impl Library {
     pub fn bar(&mut self, dimension: u32, letter: u8) -> Result<(), Refusal>
         ensures { MatchResult result (λ _. (bar_fault self.old dimension letter ≡ None) × Barred self.old self.new dimension letter) (λ e. (bar_fault self.old dimension letter ≡ Some e) × (self.new ≡ self.old)) }
     {
-        if dimension == 0 || dimension as usize > self.plan.len() {
-            return Err(Refusal::NoDimension);
-        }
         let place = dimension as usize;
-        if letter >= self.plan[place - 1] {
-            return Err(Refusal::Clip(space::ClipFault::Letter(place)));
+        let index = place.checked_sub(1).ok_or(Refusal::NoDimension)?;
+        let size = self.plan.get(index).ok_or(Refusal::NoDimension)?;
+        if letter >= *size {
+            return Err(ClipFault::Letter(place).into());
         }
-        self.bars[place - 1] |= set_of(letter);
+        self.bars[index] |= set_of(letter);
         Ok(())
     }
 

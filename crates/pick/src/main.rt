@@ -43,7 +43,7 @@ fn answer_line(
 
 // Answers each line of an input. Where it was cut at the limit, what follows the last line feed is one bad line.
 fn answer_all(rt: &HostRuntime, input: &[u8], was_cut: bool) -> anyhow::Result<()> {
-    let mut session = Session::Bare;
+    let mut session = Session::default();
     let mut rest = Some(input);
     // A text has at most one line more than bytes.
     for number in 1..LIMIT + 2 {

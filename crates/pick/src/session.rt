@@ -8,13 +8,10 @@ use crate::refusal::{Refusal, Trouble};
 use crate::reply::Reply;
 use std::alloc::Global;
 
-#[derive(Drop)]
-pub enum Session {
-    Bare,
-    Open(Library),
+#[derive(Default, Drop)]
+pub struct Session {
+    library: Option<Library>,
 }
-
-const NO_PLAN: Trouble = Trouble::Refused(Refusal::NoPlan);
 
 impl Session {
     // Starts an empty library, in the place of the one that is there.
@@ -22,58 +19,40 @@ impl Session {
         ensures { Begins sizes.items self.old self.new result }
     {
         let dimensions = sizes.len();
-        match Library::begin(heap, sizes) {
-            Ok(library) => {
-                *self = Session::Open(library);
-                Ok(Reply::Begun(dimensions))
-            }
-            Err(fault) => Err(Trouble::Refused(Refusal::Plan(fault))),
-        }
+        let library = Library::begin(heap, sizes).map_err(Refusal::Plan)?;
+        self.library = Some(library);
+        Ok(Reply::Begun(dimensions))
     }
 
     fn list(&mut self, number: u32, letters: Vec<u8>) -> Result<Reply, Trouble>
         ensures { Lists number letters.items self.old self.new result }
     {
-        match self {
-            Session::Bare => Err(NO_PLAN),
-            Session::Open(library) => {
-                library.list(number, letters)?;
-                Ok(Reply::Listed(number))
-            }
-        }
+        let library = self.library.as_mut().ok_or(Refusal::NoPlan)?;
+        library.list(number, letters)?;
+        Ok(Reply::Listed(number))
     }
 
     fn bar(&mut self, dimension: u32, letter: u8) -> Result<Reply, Trouble>
         ensures { Bars dimension letter self.old self.new result }
     {
-        match self {
-            Session::Bare => Err(NO_PLAN),
-            Session::Open(library) => {
-                library.bar(dimension, letter)?;
-                Ok(Reply::Barred(dimension, letter))
-            }
-        }
+        let library = self.library.as_mut().ok_or(Refusal::NoPlan)?;
+        library.bar(dimension, letter)?;
+        Ok(Reply::Barred(dimension, letter))
     }
 
     fn cut_off(&mut self, limit: u32) -> Result<Reply, Trouble>
         ensures { Cuts limit self.old self.new result }
     {
-        match self {
-            Session::Bare => Err(NO_PLAN),
-            Session::Open(library) => {
-                library.cut_off(limit);
-                Ok(Reply::CutOff(limit))
-            }
-        }
+        let library = self.library.as_mut().ok_or(Refusal::NoPlan)?;
+        library.cut_off(limit);
+        Ok(Reply::CutOff(limit))
     }
 
     fn ask(&self, heap: Global, count: u32, query: Vec<u8>) -> Result<Reply, Trouble>
         ensures { Asks count query.items self.now result }
     {
-        match self {
-            Session::Bare => Err(NO_PLAN),
-            Session::Open(library) => Ok(Reply::Found(library.ask(heap, count, query)?)),
-        }
+        let library = self.library.as_ref().ok_or(Refusal::NoPlan)?;
+        Ok(Reply::Found(library.ask(heap, count, query)?))
     }
 
     // Obeys a command. Without a plan, each but a plan is refused; and a command that is refused changes nothing.

@@ -2,6 +2,7 @@ ghost use Rattle.ranked.specs.Find.{ahead};
 ghost use Rattle.std.proofs.Common.{rules};
 
 use crate::order::Ranked;
+use std::fmt;
 
 // A clip that a search found, and how far it lies from what was looked for.
 #[derive(Clone, Copy, PartialEq, Eq, Debug, Default)]
@@ -24,5 +25,13 @@ impl Ranked for Find {
         } else {
             self.distance < other.distance
         }
+    }
+}
+
+impl fmt::Display for Find {
+    fn fmt<W: fmt::Write>(&self, f: &mut fmt::Formatter<W>) -> fmt::Result {
+        let clip = self.clip;
+        let distance = self.distance;
+        write!(f, "clip {clip} at {distance}")
     }
 }
