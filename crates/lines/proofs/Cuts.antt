@@ -1,11 +1,11 @@
 -- The first line feed of a text.
-use Rattle.std.proofs.Common.{◌≡◌, ℕ, ◌+◌, ◌-◌, Bool, true, false, eqb, List, [], ◌∷◌, ◌++◌, length, take, drop, Some, None, refl, ap, ⊎_elim, MatchOption, arith}
+use Rattle.std.proofs.Common.{◌≡◌, ℕ, ◌+◌, ◌-◌, Bool, true, false, eqb, List, [], ◌∷◌, ◌++◌, length, take, drop, is_some, Some, None, refl, ap, ⊎_elim, MatchOption, arith}
 use Rattle.std.proofs.lemmas.Grind.{common_steps}
 use Rattle.std.proofs.lemmas.List.{take_rest}
 use Rattle.std.specs.List.{before_first, position}
 use Rattle.std.specs.Option.{option_map}
 use Rattle.std.proofs.lemmas.Bool.{cases_Bool, eqb-true, eqb-false}
-use Rattle.lines.specs.Lines.{line_of, rest_of}
+use Rattle.lines.specs.Lines.{line_of, rest_of, lines_of, lines_left, longer_first}
 use Rattle.lines.specs.LawsLines.{Plain, LinesLaw}
 
 abbrev pub feed : ℕ → Bool
@@ -37,6 +37,15 @@ line_whole s e = grind (arith, common_steps, line_before s)
 
 pub ruleset cuts = (line_before, rest_after, rest_there, line_whole)
 
+-- ---- the lines of a text are its first line and those of its rest
+pub lines_more : (s : List ℕ) → lines_of s ≡ (line_of s, is_some (rest_of s)) ∷ lines_left (rest_of s)
+lines_more [] = refl
+lines_more (b ∷ s) =
+    ⊎_elim
+    (λ (e : eqb b 10 ≡ true). rw e refl)
+    (λ (e : eqb b 10 ≡ false). rw e (ap (longer_first b) (lines_more s)))
+    (cases_Bool (eqb b 10))
+
 -- ---- what a line is
 plain : (s : List ℕ) → Plain (line_of s)
 plain [] = tt
@@ -64,4 +73,4 @@ whole (b ∷ s) =
         w
 
 pub lines_law : LinesLaw
-lines_law s = (plain s, whole s)
+lines_law s = (plain s, whole s, lines_more s)

@@ -1,7 +1,8 @@
 // Laws of the definitions that the contracts cite. Each function is the claim that its law is proved.
 ghost use Rattle.lines.specs.LawsLines.{LinesLaw, FieldsLaw};
 
-// A text is its first line, a line feed and the rest, or else its first line alone; and a line has no line feed.
+// A text is its first line, a line feed and the rest, or else its first line alone; a line has no line feed; and the lines of a text are its
+// first line and those of the rest.
 pub fn lines_stand() -> u8
     ensures { LinesLaw }
 {

@@ -6,7 +6,9 @@ mod fields;
 mod laws;
 #[cfg(test)]
 mod tests;
+mod walk;
 
 pub use cut::cut_line;
 pub use fields::{FieldsError, read_fields};
 pub use laws::{fields_stand, lines_stand};
+pub use walk::{Line, Lines};

@@ -53,3 +53,19 @@ fn cuts(rt: HostRuntime) {
     assert_eq!(rt; cut_line(b"\n"), (b"".as_slice(), Some(b"".as_slice())));
     assert_eq!(rt; cut_line(b"ab"), (b"ab".as_slice(), None));
 }
+
+#[test]
+fn walks(rt: HostRuntime) {
+    let ended = |text| Some(Line { text, ended: true });
+    let last = |text| Some(Line { text, ended: false });
+    let mut lines = Lines::of(b"ab\n\ncd");
+    assert_eq!(rt; lines.next(), ended(b"ab"));
+    assert_eq!(rt; lines.next(), ended(b""));
+    assert_eq!(rt; lines.next(), last(b"cd"));
+    assert_eq!(rt; lines.next(), None);
+    let mut lines = Lines::of(b"ab\n");
+    assert_eq!(rt; lines.next(), ended(b"ab"));
+    assert_eq!(rt; lines.next(), last(b""));
+    assert_eq!(rt; lines.next(), None);
+    assert_eq!(rt; Lines::of(b"").count(), 1);
+}

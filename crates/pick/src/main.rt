@@ -14,7 +14,7 @@ use crate::command::read_command;
 use crate::refusal::Trouble;
 use crate::session::Session;
 use anyhow::anyhow;
-use lines::{FieldsError, cut_line};
+use lines::{FieldsError, Lines};
 use std::io::Read;
 
 // So many bytes of the input are read.
@@ -44,21 +44,12 @@ fn answer_line(
 // Answers each line of an input. Where it was cut at the limit, what follows the last line feed is one bad line.
 fn answer_all(rt: &HostRuntime, input: &[u8], was_cut: bool) -> anyhow::Result<()> {
     let mut session = Session::default();
-    let mut rest = Some(input);
-    // A text has at most one line more than bytes.
-    for number in 1..LIMIT + 2 {
-        let Some(text) = rest else {
-            break;
-        };
-        let (line, after) = cut_line(text);
-        if after.is_some() {
-            answer_line(rt, &mut session, number, line)?;
-        } else if was_cut {
+    for (number, line) in (1..).zip(Lines::of(input)) {
+        if was_cut && !line.ended {
             println!(rt; "line {number}: bad line")?;
-        } else if !line.is_empty() {
-            answer_line(rt, &mut session, number, line)?;
+        } else if line.ended || !line.text.is_empty() {
+            answer_line(rt, &mut session, number, line.text)?;
         }
-        rest = after;
     }
     Ok(())
 }
