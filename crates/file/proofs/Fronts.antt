@@ -46,3 +46,5 @@ module _ (plan file s : List ℕ) (h : 0 < length file) (e : get_or file 0 0 ≡
   -- what follows the plan
   pub behind_plan : drop (length plan) s ≡ body plan file
   behind_plan = ap (drop (length plan)) q ∙ drop-drop (length plan) 1 file ∙ ap (λ n. drop n file) (let a : 1 + length plan ≡ suc (length plan) = omega arith in a)
+
+pub ruleset fronts = (plan_there, plan_not_there, behind_plan)

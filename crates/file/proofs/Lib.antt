@@ -1,5 +1,4 @@
 pub mod Fronts
-pub mod Numbers
 pub mod Cuttings
 pub mod Listed
 pub mod Checks

@@ -1,14 +1,14 @@
 -- The rows of a file, one by one.
-use Rattle.std.proofs.Common.{◌≡◌, ℕ, zero, suc, ◌+◌, ◌*◌, ◌<◌, ◌≤◌, cond, ltb, List, [], length, get_or, take, drop, Some, None, Option, sym, refl, ap, ◌∙◌, ap₂, mul-le-mul_left, mul-zero, mul-suc, add-one, arith}
-use Rattle.std.proofs.lemmas.List.{drop-drop, drop-take, take-take, length-drop, length-take-le}
+use Rattle.std.proofs.Common.{◌≡◌, ℕ, zero, suc, ◌+◌, ◌-◌, ◌*◌, ◌<◌, ◌≤◌, cond, map, ltb, List, [], length, get_or, take, drop, Some, sym, refl, ap, ◌∙◌, ap₂, mul-le-mul_left, mul-zero, mul-suc, add-one, arith}
+use Rattle.std.proofs.lemmas.List.{drop-drop, length-drop, length-take-le}
 use Rattle.space.specs.Row.{Row}
 use Rattle.space.specs.Plans.{letter_fault}
 use Rattle.space.specs.declared.plan.ClipFault.TheVariants.{Number}
-use Rattle.space.proofs.Steps.{one_more}
+use Rattle.space.proofs.Faults.{fault_none, fault_some}
 use Rattle.rules.specs.File.{number_of, rows_from}
 use Rattle.file.specs.Checked.{first, in_row, number_fault, letters_fault}
-use Rattle.file.specs.declared.fault.RowFault.{RowFault}
-use Rattle.file.specs.Reads.{no_row}
+use Rattle.file.specs.Cut.{numbered}
+use Rattle.std.specs.Simd.{first_chunks}
 
 pub length_rows : (n d : ℕ) (N L : List ℕ) → length (rows_from n d N L) ≡ n
 length_rows zero d N L = refl
@@ -29,6 +29,14 @@ row_is (suc n) d N L (suc i) none h =
     row_is n d (drop 4 N) (drop d L) i none (omega arith)
     ∙ ap₂ row (drop-drop (4 * i) 4 N ∙ ap (λ k. drop k N) p) (drop-drop (d * i) d L ∙ ap (λ k. drop k L) q)
 
+-- chunk i stands behind i chunks
+pub chunk_at : (n i : ℕ) (N : List ℕ) → i < n → get_or (first_chunks 4 n N) i [] ≡ take 4 (drop (4 * i) N)
+chunk_at zero i N h = absurd (omega arith)
+chunk_at (suc n) zero N h = refl
+chunk_at (suc n) (suc i) N h =
+    let p : 4 + 4 * i ≡ 4 * suc i = omega arith in
+    chunk_at n i (drop 4 N) (omega arith) ∙ ap (take 4) (drop-drop (4 * i) 4 N ∙ ap (λ k. drop k N) p)
+
 -- where the letters of row i end
 pub row_within : (d n i m : ℕ) → i < n → d * n ≤ m → d * i + d ≤ m
 row_within d n i m h l =
@@ -43,16 +51,11 @@ row_long d n i L h l =
     length-take-le d (drop (d * i) L) (omega arith)
 
 -- ---- the numbers alone, and the letters alone
-pub numbers_alone : (i last n d : ℕ) (N L : List ℕ) → number_fault i last (rows_from n d N L) ≡ number_fault i last (rows_from n 0 (take (4 * n) N) [])
+pub numbers_alone : (i last n d : ℕ) (N L : List ℕ) → number_fault i last (rows_from n d N L) ≡ number_fault i last (map numbered (first_chunks 4 n N))
 numbers_alone i last zero d N L = refl
 numbers_alone i last (suc n) d N L =
-    let e : 4 * suc n ≡ 4 + 4 * n = omega arith in
-    let f = in_row i (Some Number) in
     let x = number_of (take 4 N) in
-    let l : 4 ≤ 4 * suc n = omega arith in
-    ap (λ t. cond (ltb last x) t f) (numbers_alone (suc i) x n d (drop 4 N) (drop d L))
-    ∙ ap₂ (λ y R. cond (ltb last y) (number_fault (suc i) y (rows_from n 0 R [])) f) (ap number_of (sym (take-take 4 (4 * suc n) N l)))
-    (sym (ap (λ k. drop 4 (take k N)) e ∙ drop-take 4 (4 * n) N))
+    ap (λ t. cond (ltb last x) t (in_row i (Some Number))) (numbers_alone (suc i) x n d (drop 4 N) (drop d L))
 
 pub letters_alone : (i n : ℕ) (plan N L : List ℕ) → letters_fault i plan (rows_from n (length plan) N L) ≡ letters_fault i plan (rows_from n (length plan) [] L)
 letters_alone i zero plan N L = refl
@@ -60,40 +63,14 @@ letters_alone i (suc n) plan N L =
     let d = length plan in
     ap (first (in_row i (letter_fault 1 plan (take d L)))) (letters_alone (suc i) n plan (drop 4 N) (drop d L) ∙ sym (letters_alone (suc i) n plan (drop 4 []) (drop d L)))
 
--- ---- the steps of the loops that check them
-pub number_more : (n : ℕ) (N : List ℕ) (last i : ℕ) → i < n
-    → number_fault (i + 1) last (drop i (rows_from n 0 N []))
-    ≡ cond (ltb last (number_of (take 4 (drop (4 * i) N))))
-    (number_fault (i + 1 + 1) (number_of (take 4 (drop (4 * i) N))) (drop (i + 1) (rows_from n 0 N []))) (Some (record { row = i + 1; fault = Number }))
-number_more n N last i h =
-    let rows = rows_from n 0 N [] in
-    let l : i < length rows = let e = length_rows n 0 N [] in omega arith in
-    one_more (number_fault (i + 1) last) rows no_row i l
-    ∙ ap₂ (λ (r : Row) k. cond (ltb last r.number) (number_fault k r.number (drop (i + 1) rows)) (Some (record { row = i + 1; fault = Number })))
-    (row_is n 0 N [] i no_row h) (sym (add-one (i + 1)))
-
-pub letters_more : (plan : List ℕ) (n : ℕ) (L : List ℕ) (i : ℕ) → i < n
-    → letters_fault (i + 1) plan (drop i (rows_from n (length plan) [] L))
-    ≡ first (in_row (i + 1) (letter_fault 1 plan (take (length plan) (drop (length plan * i) L))))
-    (letters_fault (i + 1 + 1) plan (drop (i + 1) (rows_from n (length plan) [] L)))
-letters_more plan n L i h =
+-- ---- the step of the loop that checks the letters: of n rows k are behind, and the letters of the others are left
+pub letters_step : (i : ℕ) (plan L : List ℕ) (n k : ℕ) → k < n
+    → letters_fault i plan (rows_from (n - k) (length plan) [] L)
+    ≡ first (in_row i (letter_fault 1 plan (take (length plan) L))) (letters_fault (i + 1) plan (rows_from (n - (k + 1)) (length plan) [] (drop (length plan) L)))
+letters_step i plan L n k h =
     let d = length plan in
-    let rows = rows_from n d [] L in
-    let l : i < length rows = let e = length_rows n d [] L in omega arith in
-    one_more (letters_fault (i + 1) plan) rows no_row i l
-    ∙ ap₂ (λ (r : Row) k. first (in_row (i + 1) (letter_fault 1 plan r.letters)) (letters_fault k plan (drop (i + 1) rows)))
-    (row_is n d [] L i no_row h) (sym (add-one (i + 1)))
+    let e : n - k ≡ suc (n - (k + 1)) = omega arith in
+    ap (λ m. letters_fault i plan (rows_from m d [] L)) e
+    ∙ ap (λ j. first (in_row i (letter_fault 1 plan (take d L))) (letters_fault j plan (rows_from (n - (k + 1)) d [] (drop d L)))) (sym (add-one i))
 
--- the letters of row i, as a program reads them
-module _ (plan : List ℕ) (n : ℕ) (L : List ℕ) (i : ℕ) (h : i < n) (ls : List ℕ) (e : ls ≡ take (length plan) (drop (length plan * i) L)) where
-  abbrev rest : ℕ → Option RowFault
-  rest k = letters_fault (k + 1) plan (drop k (rows_from n (length plan) [] L))
-
-  letters_here : rest i ≡ first (in_row (i + 1) (letter_fault 1 plan ls)) (rest (i + 1))
-  letters_here = letters_more plan n L i h ∙ ap (λ v. first (in_row (i + 1) (letter_fault 1 plan v)) (rest (i + 1))) (sym e)
-
-  pub letters_pass : in_row (i + 1) (letter_fault 1 plan ls) ≡ None → rest (i + 1) ≡ rest i
-  letters_pass z = sym (letters_here ∙ ap (λ o. first o (rest (i + 1))) z)
-
-  pub letters_stop : (f : RowFault) → in_row (i + 1) (letter_fault 1 plan ls) ≡ Some f → rest i ≡ Some f
-  letters_stop f z = letters_here ∙ ap (λ o. first o (rest (i + 1))) z
+pub ruleset steps = (letters_step, fault_none, fault_some)

@@ -1,13 +1,11 @@
 -- The file of some clips, written part by part.
-use Rattle.std.proofs.Common.{◌≡◌, ℕ, suc, ◌+◌, ◌*◌, ◌/◌, ◌%◌, ◌<◌, ◌≤◌, true, ◌&&◌, leb, List, [], ◌∷◌, ◌++◌, length, get_or, take, drop, Some, sym, refl, ap, ◌∙◌, ap₂, mul-zero, zero-add, mul-suc, add-one, arith}
+use Rattle.std.proofs.Common.{◌≡◌, ℕ, suc, ◌+◌, ◌*◌, ◌/◌, ◌%◌, ◌<◌, ◌≤◌, List, [], ◌∷◌, ◌++◌, length, get_or, take, drop, sym, refl, ap, ◌∙◌, ap₂, mul-zero, zero-add, mul-suc, add-one, arith}
 use Rattle.std.specs.List.{AllByRecursion}
-use Rattle.std.proofs.lemmas.List.{append_assoc, length-append, length-map, length-take-le, map_more, flat_map_more, take_all}
-use Rattle.std.proofs.lemmas.Bool.{and_from, le-leb}
-use Rattle.space.specs.Boxes.{dimensions, given}
+use Rattle.std.proofs.lemmas.List.{append_assoc, length-append, length-map, length-take-le, map_more, flat_map_more}
 use Rattle.space.specs.Row.{Row, stored_row, stored_rows}
 use Rattle.space.specs.declared.clip.StoredClip.{StoredClip}
 use Rattle.rules.specs.File.{bytes_of, header, number_bytes, letter_bytes}
-use Rattle.file.specs.Writes.{written, file_length, put, written_length}
+use Rattle.file.specs.Writes.{written, file_length, put}
 use Rattle.file.specs.LawsFile.{WrittenSaves}
 use Rattle.file.proofs.Puts.{put_then}
 
@@ -53,22 +51,25 @@ module _ (d : ℕ) (clips : List StoredClip) (i : ℕ) (h : i < length clips) wh
   letters_more : letter_bytes (stored_rows d (take i clips)) ++ take d (get_or clips i blank).letters ≡ letter_bytes (stored_rows d (take (i + 1) clips))
   letters_more = flat_map_more (λ (r : Row). r.letters) [] (stored_rows d (take i clips)) (stored_row d (get_or clips i blank)) ∙ ap letter_bytes (sym rows_more)
 
-  module _ (at : ℕ) (slots output bytes : List ℕ) (k : at ≤ length slots) where
-    pub number_step : output ≡ put at (number_bytes (stored_rows d (take i clips))) slots → bytes ≡ bytes_of 4 (get_or clips i blank).number
-        → put (at + 4 * i) bytes output ≡ put at (number_bytes (stored_rows d (take (i + 1) clips))) slots
-    number_step o b =
+  -- new is what one write more leaves of the output, at the place behind what is written
+  module _ (at p : ℕ) (slots output new bytes : List ℕ) (k : at ≤ length slots) (w : new ≡ put p bytes output) where
+    pub number_step : p ≡ at + 4 * i → output ≡ put at (number_bytes (stored_rows d (take i clips))) slots → bytes ≡ bytes_of 4 (get_or clips i blank).number
+        → new ≡ put at (number_bytes (stored_rows d (take (i + 1) clips))) slots
+    number_step q o b =
         let n = number_bytes (stored_rows d (take i clips)) in
-        let p : at + 4 * i ≡ at + length n = ap (λ x. at + x) (sym (length_numbers (stored_rows d (take i clips)) ∙ ap (λ x. 4 * x) rows_long)) in
-        ap₂ (put (at + 4 * i)) b o
-        ∙ put_then at (at + 4 * i) n (bytes_of 4 (get_or clips i blank).number) slots k p
+        let l : length n ≡ 4 * i = length_numbers (stored_rows d (take i clips)) ∙ ap (λ x. 4 * x) rows_long in
+        w
+        ∙ ap₂ (put p) b o
+        ∙ put_then at p n (bytes_of 4 (get_or clips i blank).number) slots k (omega arith)
         ∙ ap (λ x. put at x slots) numbers_more
 
     module _ (b : bytes ≡ take d (get_or clips i blank).letters) (long : length (letter_bytes (stored_rows d (take i clips))) ≡ d * i) where
-      pub letter_step : output ≡ put at (letter_bytes (stored_rows d (take i clips))) slots
-          → put (at + d * i) bytes output ≡ put at (letter_bytes (stored_rows d (take (i + 1) clips))) slots
-      letter_step o =
-          ap₂ (put (at + d * i)) b o
-          ∙ put_then at (at + d * i) (letter_bytes (stored_rows d (take i clips))) (take d (get_or clips i blank).letters) slots k (ap (λ x. at + x) (sym long))
+      pub letter_step : p ≡ at + d * i → output ≡ put at (letter_bytes (stored_rows d (take i clips))) slots
+          → new ≡ put at (letter_bytes (stored_rows d (take (i + 1) clips))) slots
+      letter_step q o =
+          w
+          ∙ ap₂ (put p) b o
+          ∙ put_then at p (letter_bytes (stored_rows d (take i clips))) (take d (get_or clips i blank).letters) slots k (omega arith)
           ∙ ap (λ x. put at x slots) letters_more
 
       pub letter_long : length bytes ≡ d → length (letter_bytes (stored_rows d (take (i + 1) clips))) ≡ d * (i + 1)
@@ -79,10 +80,6 @@ module _ (d : ℕ) (clips : List StoredClip) (i : ℕ) (h : i < length clips) wh
           let m : d * (i + 1) ≡ d * i + d = ap (λ x. d * x) (add-one i) ∙ mul-suc d i in
           omega arith
 
--- all clips
-pub rows_all : (d : ℕ) (clips : List StoredClip) (i : ℕ) → length clips ≤ i → stored_rows d (take i clips) ≡ stored_rows d clips
-rows_all d clips i h = ap (stored_rows d) (take_all i clips h)
-
 -- a number in four bytes, as a program takes it apart
 pub four_apart : (x : ℕ) → x % 256 ∷ (x / 256 % 256 ∷ (x / 65536 % 256 ∷ (x / 16777216 % 256 ∷ []))) ≡ bytes_of 4 x
 four_apart x =
@@ -91,11 +88,14 @@ four_apart x =
     ap₂ (λ y z. x % 256 ∷ (x / 256 % 256 ∷ (y ∷ (z ∷ [])))) a b
 
 -- ---- the parts one behind the other
-pub front_put : (plan two slots : List ℕ) → put (1 + length plan) two (put 1 plan (put 0 (length plan ∷ []) slots)) ≡ put 0 (header plan ++ two) slots
-front_put plan two slots =
+pub front_put : (plan two bytes slots one sizes new : List ℕ) (p q : ℕ) → one ≡ put 0 (length plan ∷ []) slots → p ≡ 1 → sizes ≡ put p plan one
+    → q ≡ 1 + length plan → new ≡ put q bytes sizes → bytes ≡ two → new ≡ put 0 (header plan ++ two) slots
+front_put plan two bytes slots one sizes new p q a e b f c g =
     let z : 0 ≤ length slots = omega arith in
-    ap (put (1 + length plan) two) (put_then 0 1 (length plan ∷ []) plan slots z refl)
-    ∙ put_then 0 (1 + length plan) (header plan) two slots z (let e : 1 + length plan ≡ 0 + suc (length plan) = omega arith in e)
+    let h : q ≡ 0 + length (header plan) = let x : 1 + length plan ≡ 0 + suc (length plan) = omega arith in f ∙ x in
+    c
+    ∙ ap₂ (put q) g (b ∙ ap (put p plan) a ∙ put_then 0 p (length plan ∷ []) plan slots z e)
+    ∙ put_then 0 q (header plan) two slots z h
 
 module _ (plan : List ℕ) (clips : List StoredClip) (slots : List ℕ) where
   abbrev rs : List Row
@@ -104,18 +104,18 @@ module _ (plan : List ℕ) (clips : List StoredClip) (slots : List ℕ) where
   rows_count : length rs ≡ length clips
   rows_count = length-map clips (stored_row (length plan))
 
-  pub whole_put : (front numbers letters : List ℕ) → front ≡ put 0 (header plan ++ bytes_of 2 (length clips)) slots
-      → numbers ≡ put (3 + length plan) (number_bytes rs) front
-      → letters ≡ put (3 + length plan + 4 * length clips) (letter_bytes rs) numbers
+  pub whole_put : (front numbers letters : List ℕ) (p q : ℕ) → front ≡ put 0 (header plan ++ bytes_of 2 (length clips)) slots
+      → p ≡ 3 + length plan → numbers ≡ put p (number_bytes rs) front
+      → q ≡ p + 4 * length clips → letters ≡ put q (letter_bytes rs) numbers
       → letters ≡ written plan rs ++ drop (length (written plan rs)) slots
-  whole_put front numbers letters f n l =
+  whole_put front numbers letters p q f d n e l =
       let z : 0 ≤ length slots = omega arith in
       let two = bytes_of 2 (length clips) in
       let start = header plan ++ two in
-      let a : 3 + length plan ≡ 0 + length start = let e = length_front plan (length clips) in omega arith in
-      let b : 3 + length plan + 4 * length clips ≡ 0 + length (start ++ number_bytes rs) =
-      let e = length-append start (number_bytes rs) in
       let g = length_front plan (length clips) in
+      let a : p ≡ 0 + length start = omega arith in
+      let b : q ≡ 0 + length (start ++ number_bytes rs) =
+      let h = length-append start (number_bytes rs) in
       let k = length_numbers rs in
       let m = rows_count in
       omega arith in
@@ -124,8 +124,8 @@ module _ (plan : List ℕ) (clips : List StoredClip) (slots : List ℕ) where
       ∙ append_assoc (header plan) two (number_bytes rs ++ letter_bytes rs)
       ∙ ap (λ k. header plan ++ (bytes_of 2 k ++ (number_bytes rs ++ letter_bytes rs))) (sym rows_count) in
       l
-      ∙ ap (put (3 + length plan + 4 * length clips) (letter_bytes rs)) (n ∙ ap (put (3 + length plan) (number_bytes rs)) f ∙ put_then 0 (3 + length plan) start (number_bytes rs) slots z a)
-      ∙ put_then 0 (3 + length plan + 4 * length clips) (start ++ number_bytes rs) (letter_bytes rs) slots z b
+      ∙ ap (put q (letter_bytes rs)) (n ∙ ap (put p (number_bytes rs)) f ∙ put_then 0 p start (number_bytes rs) slots z a)
+      ∙ put_then 0 q (start ++ number_bytes rs) (letter_bytes rs) slots z b
       ∙ ap (λ x. put 0 x slots) same
       ∙ ap (λ k. written plan rs ++ drop k slots) (zero-add (length (written plan rs)))
 
@@ -135,11 +135,3 @@ module _ (plan : List ℕ) (clips : List StoredClip) (slots : List ℕ) where
       let a = length_written plan rs (e ∙ ap (λ k. length plan * k) (sym rows_count)) in
       let b = ap (file_length (length plan)) rows_count in
       omega arith
-
-pub written_given : (d n room : ℕ) → 1 ≤ d → d ≤ 10 → n ≤ 65535 → 3 + d + 4 * n + d * n ≤ room → Some (3 + d + 4 * n + d * n) ≡ written_length d n room
-written_given d n room a b c h =
-    let e : file_length d n ≡ 3 + d + 4 * n + d * n = omega arith in
-    let t : (dimensions d && (leb n 65535 && leb (file_length d n) room)) ≡ true =
-    and_from (dimensions d) _ (and_from (leb 1 d) (leb d 10) (le-leb 1 d a) (le-leb d 10 b))
-    (and_from (leb n 65535) (leb (file_length d n) room) (le-leb n 65535 c) (le-leb (file_length d n) room (omega arith))) in
-    ap Some (sym e) ∙ ap (λ u. given u (file_length d n)) (sym t)

@@ -5,70 +5,53 @@ ghost use Rattle.file.specs.Cut.{Planned, Unplanned, Cut};
 ghost use Rattle.rules.specs.File.{number_of};
 
 use crate::fault::FileFault;
+use std::cmp::Ordering;
 
 // The most sizes that a plan has.
 pub(crate) const DIMENSIONS: usize = 10;
 
-// The bytes of the rows of a file.
+// The rows of a file: the number of each in four bytes, and the letters of one behind those of another.
 #[derive(Clone, Copy)]
 pub(crate) struct Rows<'a> {
-    pub(crate) count: usize,
-    pub(crate) numbers: &'a [u8],
+    pub(crate) numbers: &'a [[u8; 4]],
     pub(crate) letters: &'a [u8],
 }
 
 // What follows the plan in a file that begins with it.
+#[tactic(auto, using(crate::proofs::Fronts::fronts))]
 pub(crate) fn after_plan<'a>(plan: &[u8], file: &'a [u8]) -> Result<&'a [u8], FileFault>
     ensures { MatchResult result (λ rest. Planned plan.now file.now rest.now) (Unplanned plan.now file.now) }
 {
-    let [d, rest @ ..] = file else {
-        return Err(FileFault::Plan);
-    };
+    let (d, rest) = file.split_first().ok_or(FileFault::Plan)?;
     if usize::from(*d) != plan.len() {
         return Err(FileFault::Plan);
     }
-    match rest.strip_prefix(plan) {
-        Some(rows) => Ok(rows),
-        None => Err(FileFault::Plan),
-    }
+    rest.strip_prefix(plan).ok_or(FileFault::Plan)
 }
 
 // The parts of what follows a plan of d sizes, if it is as long as the rows that it announces ask for.
 pub(crate) fn cut_rows(d: usize, rest: &[u8]) -> Result<Rows<'_>, FileFault>
     requires { d < 256 }
-    ensures { MatchResult result (λ rows. Cut d rest.now rows.count rows.numbers.now rows.letters.now) (λ e. length_fault d rest.now ≡ Some e) }
+    ensures { MatchResult result (λ rows. Cut d rest.now rows.numbers.now rows.letters.now) (λ e. length_fault d rest.now ≡ Some e) }
 {
-    let [low, high, rows @ ..] = rest else {
-        return Err(FileFault::Short);
-    };
-    let count = usize::from(u16::from_le_bytes([*low, *high]));
-    let length = 4 * count + d * count;
-    if rows.len() < length {
-        return Err(FileFault::Short);
+    let (announced, rows) = rest.split_first_chunk().ok_or(FileFault::Short)?;
+    let count = usize::from(u16::from_le_bytes(*announced));
+    match rows.len().cmp(&(4 * count + d * count)) {
+        Ordering::Less => Err(FileFault::Short),
+        Ordering::Greater => Err(FileFault::Long),
+        Ordering::Equal => {
+            let (numbers, letters) = rows.split_at(4 * count);
+            let (numbers, _) = numbers.as_chunks();
+            Ok(Rows { numbers, letters })
+        }
     }
-    if rows.len() > length {
-        return Err(FileFault::Long);
-    }
-    let (numbers, letters) = rows.split_at(4 * count);
-    Ok(Rows {
-        count,
-        numbers,
-        letters,
-    })
 }
 
-// The number of the row at that index.
-pub(crate) fn number_at(numbers: &[u8], index: usize) -> u32
-    requires { 4 * index + 4 ≤ length numbers.now }
-    ensures { result ≡ number_of (take 4 (drop (4 * index) numbers.now)) }
+// The number in four bytes. That there are four is known of an argument, and not of an element of a slice.
+pub(crate) fn number_in(bytes: [u8; 4]) -> u32
+    ensures { result ≡ number_of bytes }
 {
-    let at = 4 * index;
-    u32::from_le_bytes([
-        numbers[at],
-        numbers[at + 1],
-        numbers[at + 2],
-        numbers[at + 3],
-    ])
+    u32::from_le_bytes(bytes)
 }
 
 // The letters of the row at that index.

@@ -2,7 +2,7 @@
 ghost use Rattle.file.specs.Reads.{row_at};
 ghost use Rattle.std.specs.Prelude.{◌≡◌};
 
-use crate::parts::{DIMENSIONS, cut_rows, letters_at, number_at};
+use crate::parts::{DIMENSIONS, cut_rows, letters_at, number_in};
 use space::StoredClip;
 
 // The row at that index, counted from 0, of a file that was checked. None where the plan has too many sizes, the file has not the
@@ -11,19 +11,13 @@ pub fn row_at(plan: &[u8], file: &[u8], index: usize) -> Option<StoredClip>
     ensures { result ≡ row_at plan.now file.now index }
 {
     let d = plan.len();
-    if d > DIMENSIONS || file.len() <= d {
+    if d > DIMENSIONS {
         return None;
     }
-    let Ok(rows) = cut_rows(d, &file[1 + d..]) else {
-        return None;
-    };
-    if index >= rows.count {
-        return None;
-    }
+    let rest = file.get(1 + d..)?;
+    let rows = cut_rows(d, rest).ok()?;
+    let number = number_in(*rows.numbers.get(index)?);
     let mut letters = [0; DIMENSIONS];
     letters[..d].copy_from_slice(letters_at(d, rows.letters, index));
-    Some(StoredClip {
-        number: number_at(rows.numbers, index),
-        letters,
-    })
+    Some(StoredClip { number, letters })
 }

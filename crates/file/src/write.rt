@@ -7,35 +7,39 @@ ghost use Rattle.space.specs.Row.{stored_rows};
 use crate::parts::DIMENSIONS;
 use space::StoredClip;
 
-// As many as two bytes can announce.
-const MOST_ROWS: usize = 65_535;
-
-// Writes the bytes from that place on, and leaves the others.
-fn write_at(output: &mut [u8], at: usize, bytes: &[u8])
+// Writes the bytes from that place on, and leaves the others. Answers the place behind them, as each of the next three does.
+fn write_at(output: &mut [u8], at: usize, bytes: &[u8]) -> usize
     requires { at + length bytes.now ≤ length output.old }
-    ensures { output.new ≡ put at bytes.now output.old }
+    ensures bytes { output.new ≡ put at bytes.now output.old }
+    ensures end { result ≡ at + length bytes.now }
 {
-    output[at..at + bytes.len()].copy_from_slice(bytes);
+    let end = at + bytes.len();
+    output[at..end].copy_from_slice(bytes);
+    end
 }
 
 // Writes d, the sizes, and how many rows follow.
-fn write_front(output: &mut [u8], plan: &[u8], count: usize)
-    requires { (length plan.now ≤ 10) × ((count ≤ 65535) × (3 + length plan.now ≤ length output.old)) }
-    ensures { output.new ≡ put 0 (header plan.now ++ bytes_of 2 count) output.old }
+fn write_front(output: &mut [u8], plan: &[u8], count: u16) -> usize
+    requires { (length plan.now ≤ 10) × (3 + length plan.now ≤ length output.old) }
+    ensures bytes { output.new ≡ put 0 (header plan.now ++ bytes_of 2 count) output.old }
+    ensures end { result ≡ 3 + length plan.now }
 {
-    write_at(output, 0, &[plan.len() as u8]);
-    write_at(output, 1, plan);
-    write_at(output, 1 + plan.len(), &(count as u16).to_le_bytes());
+    let sizes = write_at(output, 0, &[plan.len() as u8]);
+    let announced = write_at(output, sizes, plan);
+    write_at(output, announced, &count.to_le_bytes())
 }
 
 // Writes the numbers of the clips from that place on.
-fn write_numbers(output: &mut [u8], at: usize, clips: &[StoredClip])
-    requires { at + 4 * length clips.now ≤ length output.old }
-    ensures { (d : ℕ) → output.new ≡ put at (number_bytes (stored_rows d clips.now)) output.old }
+fn write_numbers(output: &mut [u8], start: usize, clips: &[StoredClip]) -> usize
+    requires { start + 4 * length clips.now ≤ length output.old }
+    ensures bytes { (d : ℕ) → output.new ≡ put start (number_bytes (stored_rows d clips.now)) output.old }
+    ensures end { result ≡ start + 4 * length clips.now }
 {
-    for (i, clip) in clips.iter().enumerate() {
-        write_at(output, at + 4 * i, &clip.number.to_le_bytes());
+    let mut at = start;
+    for clip in clips {
+        at = write_at(output, at, &clip.number.to_le_bytes());
     }
+    at
 }
 
 // The first d letters of a clip. That a clip has ten is known of an argument, and not of an element of a slice.
@@ -48,14 +52,17 @@ fn letters_of(clip: &StoredClip, d: usize) -> &[u8]
 }
 
 // Writes the letters of the clips, d of each, from that place on.
-fn write_letters(output: &mut [u8], at: usize, d: usize, clips: &[StoredClip])
-    requires { (d ≤ 10) × (at + d * length clips.now ≤ length output.old) }
-    ensures bytes { output.new ≡ put at (letter_bytes (stored_rows d clips.now)) output.old }
+fn write_letters(output: &mut [u8], start: usize, d: usize, clips: &[StoredClip]) -> usize
+    requires { (d ≤ 10) × (start + d * length clips.now ≤ length output.old) }
+    ensures bytes { output.new ≡ put start (letter_bytes (stored_rows d clips.now)) output.old }
     ensures long { length (letter_bytes (stored_rows d clips.now)) ≡ d * length clips.now }
+    ensures end { result ≡ start + d * length clips.now }
 {
-    for (i, clip) in clips.iter().enumerate() {
-        write_at(output, at + d * i, letters_of(clip, d));
+    let mut at = start;
+    for clip in clips {
+        at = write_at(output, at, letters_of(clip, d));
     }
+    at
 }
 
 // Writes the file of the clips, in their order, to the front of the output, and answers how many bytes it has. None, and the output
@@ -66,18 +73,15 @@ pub fn write_file(plan: &[u8], clips: &[StoredClip], output: &mut [u8]) -> Optio
     ensures bytes { output.new ≡ output_after plan.now clips.now output.old result }
 {
     let d = plan.len();
-    let count = clips.len();
-    if d < 1 || d > DIMENSIONS || count > MOST_ROWS {
+    if !(1..=DIMENSIONS).contains(&d) {
         return None;
     }
-    let numbers = 3 + d;
-    let letters = numbers + 4 * count;
-    let length = letters + d * count;
+    let count = u16::try_from(clips.len()).ok()?;
+    let length = 3 + d + 4 * clips.len() + d * clips.len();
     if output.len() < length {
         return None;
     }
-    write_front(output, plan, count);
-    write_numbers(output, numbers, clips);
-    write_letters(output, letters, d, clips);
-    Some(length)
+    let numbers = write_front(output, plan, count);
+    let letters = write_numbers(output, numbers, clips);
+    Some(write_letters(output, letters, d, clips))
 }

@@ -1,11 +1,8 @@
-use Rattle.std.proofs.Common.{◌+◌, length, ap, ◌∙◌, ap₂}
-use Rattle.file.specs.Writes.{put}
+use Rattle.std.proofs.Common.{arith}
 use Rattle.file.proofs.Writings.{front_put}
 use Rattle.file.proofs.write.write_front.Goals as goal
 
-pub returns : goal.returns
-returns c =
-    let plan = c.args.plan.now in
-    c.write_at-3.ensures
-    ∙ ap₂ (put (1 + length plan)) c.to_le_bytes.ensures (c.write_at-2.ensures ∙ ap (put 1 plan) c.write_at.ensures)
-    ∙ front_put plan _ c.args.output.now
+pub returns-clause-bytes : goal.returns-clause-bytes
+returns-clause-bytes c =
+    front_put c.args.plan.now _ _ c.args.output.now _ _ _ _ c.write_at-announced.result c.write_at-sizes.ensures.bytes c.write_at-sizes.ensures.end c.write_at-announced.ensures.bytes
+    (omega arith) c.write_at.ensures.bytes c.to_le_bytes.ensures
