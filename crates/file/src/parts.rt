@@ -34,14 +34,14 @@ pub(crate) fn cut_rows(d: usize, rest: &[u8]) -> Result<Rows<'_>, FileFault>
     requires { d < 256 }
     ensures { MatchResult result (λ rows. Cut d rest.now rows.numbers.now rows.letters.now) (λ e. length_fault d rest.now ≡ Some e) }
 {
-    let (announced, rows) = rest.split_first_chunk().ok_or(FileFault::Short)?;
+    let (announced, rows) = rest.split_first_chunk::<2>().ok_or(FileFault::Short)?;
     let count = usize::from(u16::from_le_bytes(*announced));
     match rows.len().cmp(&(4 * count + d * count)) {
         Ordering::Less => Err(FileFault::Short),
         Ordering::Greater => Err(FileFault::Long),
         Ordering::Equal => {
             let (numbers, letters) = rows.split_at(4 * count);
-            let (numbers, _) = numbers.as_chunks();
+            let (numbers, _) = numbers.as_chunks::<4>();
             Ok(Rows { numbers, letters })
         }
     }

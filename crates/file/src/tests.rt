@@ -18,10 +18,10 @@ const NINE: StoredClip = StoredClip {
 
 // Number, place and row of the refusal of a file; zeros where it is not refused.
 fn refusal(file: &[u8]) -> (u32, usize, usize) {
-    match check_file(&PLAN, file) {
-        Ok(_) => (0, 0, 0),
-        Err(fault) => (fault.number(), fault.place(), fault.row()),
-    }
+    check_file(&PLAN, file).err().map_or(
+        (0, 0, 0),
+        |fault| (fault.number(), fault.place(), fault.row()),
+    )
 }
 
 #[test]

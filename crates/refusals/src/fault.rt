@@ -14,17 +14,17 @@ pub enum FitFault {
 }
 
 // The state does not allow a call: the catalogue is void, the clip is listed already or is not listed, the capacity is used up, the worklist is
-// too short, the catalogue is not empty, nothing is listed, or the output is too short.
+// too short, the catalogue is not empty, nothing is listed, or the output is too short. Each counts as its number does.
 #[derive(Clone, Copy, PartialEq, Eq, Debug)]
 pub enum StateFault {
-    Void,
-    Listed,
-    Missing,
-    Full,
-    Worklist,
-    Filled,
-    Empty,
-    Output,
+    Void = 20,
+    Listed = 21,
+    Missing = 22,
+    Full = 23,
+    Worklist = 24,
+    Filled = 25,
+    Empty = 26,
+    Output = 27,
 }
 
 impl From<PlanFault> for FitFault {
@@ -63,15 +63,6 @@ impl StateFault {
     pub fn number(self) -> u32
         ensures { result ≡ state_number self }
     {
-        match self {
-            StateFault::Void => 20,
-            StateFault::Listed => 21,
-            StateFault::Missing => 22,
-            StateFault::Full => 23,
-            StateFault::Worklist => 24,
-            StateFault::Filled => 25,
-            StateFault::Empty => 26,
-            StateFault::Output => 27,
-        }
+        self as u32
     }
 }

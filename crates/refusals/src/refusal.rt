@@ -22,7 +22,7 @@ pub enum Refusal {
 // Where a refusal comes from, by its number.
 #[derive(Clone, Copy, PartialEq, Eq, Debug)]
 pub enum Layer {
-    Plan,
+    Plan = 1,
     File,
     Clip,
     Search,
@@ -123,13 +123,7 @@ impl Layer {
     pub fn number(self) -> u32
         ensures { result ≡ layer_number self }
     {
-        match self {
-            Layer::Plan => 1,
-            Layer::File => 2,
-            Layer::Clip => 3,
-            Layer::Search => 4,
-            Layer::Catalogue => 5,
-        }
+        self as u32
     }
 }
 
