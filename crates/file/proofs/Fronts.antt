@@ -8,12 +8,12 @@ use Rattle.rules.specs.File.{header, begins, body}
 -- a list begins with another where that is its front
 begins_from : (xs ys : List ℕ) → take (length xs) ys ≡ xs → begins xs ys ≡ true
 begins_from [] ys e = refl
-begins_from (x ∷ xs) [] e = absurd (let z : ◌≡◌ {A = ℕ} 0 1 = cc in omega arith)
+begins_from (x ∷ xs) [] e = cc
 begins_from (x ∷ xs) (y ∷ ys) e = and_from (eqb x y) (begins xs ys) (eq-eqb x y (cc)) (begins_from xs ys (cc))
 
 begins_take : (xs ys : List ℕ) → begins xs ys ≡ true → take (length xs) ys ≡ xs
 begins_take [] ys h = refl
-begins_take (x ∷ xs) [] h = absurd (let z : ◌≡◌ {A = ℕ} 0 1 = cc in omega arith)
+begins_take (x ∷ xs) [] h = cc
 begins_take (x ∷ xs) (y ∷ ys) h =
     let p = and_parts (eqb x y) (begins xs ys) h in
     ap₂ (λ a b. a ∷ b) (sym (eqb-true x y p.0)) (begins_take xs ys p.1)

@@ -61,7 +61,7 @@ rows_read plan file n i none w e h =
 -- ---- a row that was read
 given_some : {X : Type 0} (t : Bool) (x y : X) → given t x ≡ Some y → (t ≡ true) × (x ≡ y)
 given_some true x y e = (refl, cc)
-given_some false x y e = absurd (let z : ◌≡◌ {A = ℕ} 0 1 = cc in omega arith)
+given_some false x y e = cc
 
 module _ (plan file : List ℕ) (i : ℕ) (c : StoredClip) (r : row_at plan file i ≡ Some c) where
   read_parts : (i < announced plan file) × (stored_as (get_or (file_rows plan file) i no_row) ≡ c)
@@ -125,11 +125,11 @@ sizes_small i (s ∷ sizes) e = go (λ x. sizes_small (suc i) sizes x) (leb 1 s 
     go : (size_fault (suc i) sizes ≡ None → AllByRecursion (λ x. x ≤ 64) sizes) → (t : Bool) → (leb 1 s && leb s 64) ≡ t
         → cond t (size_fault (suc i) sizes) (Some (plan.Size i)) ≡ None → AllByRecursion (λ x. x ≤ 64) (s ∷ sizes)
     go more true t e = (leb-true s 64 (and_parts (leb 1 s) (leb s 64) t).1, more e)
-    go more false t e = absurd (let z : ◌≡◌ {A = ℕ} 0 1 = cc in omega arith)
+    go more false t e = cc
 
 pub plan_small : (sizes : List ℕ) → plan_fault sizes ≡ None → AllByRecursion (λ s. s ≤ 64) sizes
 plan_small sizes e = go (dimensions (length sizes)) e
   where
     go : (t : Bool) → cond t (size_fault 1 sizes) (Some plan.Dimensions) ≡ None → AllByRecursion (λ s. s ≤ 64) sizes
     go true e = sizes_small 1 sizes e
-    go false e = absurd (let z : ◌≡◌ {A = ℕ} 0 1 = cc in omega arith)
+    go false e = cc

@@ -86,7 +86,7 @@ checked_rows plan file n e =
   where
     so_many_lem : (o : Option FileFault) → so_many (announced plan file) o ≡ Ok n → n ≡ announced plan file
     so_many_lem None e = cc
-    so_many_lem (Some f) e = absurd (let z : ◌≡◌ {A = ℕ} 0 1 = cc in omega arith)
+    so_many_lem (Some f) e = cc
 
 pub file_faults_refuse : FileFaultsRefuse
 file_faults_refuse = (loads_refuse, checked_rows)

@@ -7,7 +7,8 @@ ghost use Rattle.space.specs.Row.{stored_rows};
 use crate::parts::DIMENSIONS;
 use space::StoredClip;
 
-// Writes the bytes from that place on, and leaves the others. Answers the place behind them, as each of the next three does.
+// Writes the bytes from that place on, and leaves the others. Answers the place behind them, as do the functions that write the parts of
+// a file.
 fn write_at(output: &mut [u8], at: usize, bytes: &[u8]) -> usize
     requires { at + length bytes.now ≤ length output.old }
     ensures bytes { output.new ≡ put at bytes.now output.old }

@@ -13,6 +13,7 @@ use Rattle.measures.specs.Gehs.{geh_distance}
 use Rattle.measures.specs.Hammings.{hamming_distance}
 use Rattle.measures.specs.declared.count.Count.{Count}
 use Rattle.ranked.specs.declared.find.Find.{Find}
+use Rattle.std.proofs.lemmas.List.{with_items_is}
 use Rattle.rules.specs.Finds.{ranking, FirstOf}
 use Rattle.rules.proofs.Rankings.{ranking_first}
 use Rattle.scan.specs.Distances.{far_by}
@@ -103,3 +104,7 @@ answers l k q a allowed query clips hamming geh barred =
       first_graded = subst (FirstOf far rows k) (sym plain) (ranking_first far rows k once);
       first_barred = subst (FirstOf (barred_far l q) rows k) (sym barred) (ranking_first (barred_far l q) rows k once);
     }
+
+pub ruleset finds = (filled_front, with_items_is)
+
+pub ruleset uncountable = (uncounted, geh_none)

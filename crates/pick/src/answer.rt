@@ -21,9 +21,7 @@ pub struct Answer {
 
 impl fmt::Display for Graded {
     fn fmt<W: fmt::Write>(&self, f: &mut fmt::Formatter<W>) -> fmt::Result {
-        let find = self.find;
-        let grade = self.grade;
-        write!(f, "{find} (grade {grade})")
+        write!(f, "{} (grade {})", self.find, self.grade)
     }
 }
 
@@ -48,8 +46,7 @@ impl fmt::Display for Answer {
         for letter in self.query.as_slice() {
             write!(f, " {letter}")?;
         }
-        let clips = self.clips;
-        write!(f, ", clips in the library: {clips}")?;
+        write!(f, ", clips in the library: {}", self.clips)?;
         write!(f, "\n  hamming:")?;
         show_list(&self.hamming, f)?;
         write!(f, "\n  geh:    ")?;

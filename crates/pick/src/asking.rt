@@ -19,6 +19,7 @@ use std::alloc::{AllocError, Global};
 const MOST: u32 = 64;
 
 // The first clips by a measure, at most `count` of them.
+#[tactic(auto, using(crate::proofs::Findings::finds))]
 fn nearest_finds<M: Measure>(
     heap: Global,
     measure: &M,
@@ -60,6 +61,7 @@ impl Library {
     }
 
     // The nearest by GEH, by the count of these clips.
+    #[tactic(auto, using(crate::proofs::Findings::uncountable))]
     fn nearest_by_geh(
         &self,
         heap: Global,

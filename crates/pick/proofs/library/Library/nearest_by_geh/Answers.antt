@@ -1,17 +1,7 @@
-use Rattle.std.proofs.Common.{vec_items, sym, ap, ◌∙◌, ap₂}
+use Rattle.std.proofs.Common.{vec_items, ap, ◌∙◌}
 use Rattle.std.proofs.lemmas.Result.{IfOk-weaker}
-use Rattle.measures.specs.Counts.{countable}
-use Rattle.space.specs.Row.{rows_of}
-use Rattle.pick.proofs.Findings.{uncounted, geh_none, geh_graded}
+use Rattle.pick.proofs.Findings.{geh_graded}
 use Rattle.pick.proofs.library.Library.nearest_by_geh.Goals as goal
-
-pub returns-in_default : goal.returns-in_default
-returns-in_default c =
-    let self = c.args.self.now in
-    let plan = vec_items self.plan in
-    let rows = rows_of (vec_items self.clips) in
-    let e = ap₂ (λ p cs. countable p (rows_of cs)) (sym c.deref.ensures.value) (sym c.deref-2.ensures.value) ∙ c.in_default.ensures in
-    c.new.ensures.items ∙ sym (geh_none plan rows c.args.count c.args.query.now (uncounted plan rows self.planned self.of_plan self.few e))
 
 pub returns : goal.returns
 returns c =
