@@ -13,18 +13,15 @@ use crate::catalogue::Catalogue;
 use file::write_file;
 use measures::Count;
 use refusals::{Refusal, StateFault};
-use space::StoredClip;
+use space::{MOST_CLIPS, StoredClip};
 use tree::Index;
-
-// The most clips that a catalogue lists.
-const MOST: usize = 4096;
 
 // Writes the file of an index.
 fn save_index(index: &Index, output: &mut [u8]) -> Result<usize, Refusal>
     ensures told { refusal_of result ≡ of_save (length (saved (plan_of index.now) (rows_in (tree_in index.now)))) (length output.old) }
     ensures bytes { SavedAs (seen_index index.now) output.old output.new result }
 {
-    let mut clips = [StoredClip::default(); MOST];
+    let mut clips = [StoredClip::default(); MOST_CLIPS];
     let n = index.rising(&mut clips).unwrap_or(0);
     write_file(index.plan(), &clips[0..n], output).ok_or(Refusal::State(StateFault::Output))
 }
@@ -34,7 +31,7 @@ fn count_index(index: &Index, count: &mut Count) -> Result<(), Refusal>
     ensures told { refusal_of result ≡ of_count (rows_in (tree_in index.now)) }
     ensures numbers { CountedAs (seen_index index.now) count.old count.new result }
 {
-    let mut clips = [StoredClip::default(); MOST];
+    let mut clips = [StoredClip::default(); MOST_CLIPS];
     let n = index.clips(&mut clips).unwrap_or(0);
     *count = Count::of(index.plan(), &clips[0..n]).ok_or(StateFault::Empty)?;
     Ok(())

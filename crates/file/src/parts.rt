@@ -7,9 +7,6 @@ ghost use Rattle.rules.specs.File.{number_of};
 use crate::fault::FileFault;
 use std::cmp::Ordering;
 
-// The most sizes that a plan has.
-pub(crate) const DIMENSIONS: usize = 10;
-
 // The rows of a file: the number of each in four bytes, and the letters of one behind those of another.
 #[derive(Clone, Copy)]
 pub(crate) struct Rows<'a> {

@@ -2,8 +2,8 @@
 ghost use Rattle.file.specs.Reads.{row_at};
 ghost use Rattle.std.specs.Prelude.{◌≡◌};
 
-use crate::parts::{DIMENSIONS, cut_rows, letters_at, number_in};
-use space::StoredClip;
+use crate::parts::{cut_rows, letters_at, number_in};
+use space::{DIMENSIONS, StoredClip};
 
 // The row at that index, counted from 0, of a file that was checked. None where the plan has too many sizes, the file has not the
 // length that its rows ask for, or it has no such row.

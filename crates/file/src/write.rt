@@ -4,8 +4,7 @@ ghost use Rattle.file.specs.Writes.{output_after, put, written_length, written};
 ghost use Rattle.rules.specs.File.{bytes_of, header, letter_bytes, number_bytes};
 ghost use Rattle.space.specs.Row.{stored_rows};
 
-use crate::parts::DIMENSIONS;
-use space::StoredClip;
+use space::{DIMENSIONS, StoredClip};
 
 // Writes the bytes from that place on, and leaves the others. Answers the place behind them, as do the functions that write the parts of
 // a file.

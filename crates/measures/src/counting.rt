@@ -6,10 +6,7 @@ ghost use Rattle.measures.specs.Gehs.{geh_grade};
 ghost use Rattle.space.specs.Boxes.{small};
 
 use crate::count::Count;
-use space::{Described, check_plan, check_vector};
-
-// The most clips that a count can have.
-const MOST: usize = 4096;
+use space::{Described, MOST_CLIPS, check_plan, check_vector};
 
 // Nothing is counted yet.
 fn no_numbers() -> [[u16; 64]; 10]
@@ -38,7 +35,7 @@ fn count_letters(numbers: &mut [[u16; 64]; 10], letters: &[u8])
 fn is_within_limits(plan: &[u8], clips: usize) -> bool
     ensures { result ≡ limits plan.now clips }
 {
-    check_plan(plan).is_ok() && (1..=MOST).contains(&clips)
+    check_plan(plan).is_ok() && (1..=MOST_CLIPS).contains(&clips)
 }
 
 // No letter is counted beyond the dimensions of the plan.

@@ -7,10 +7,8 @@ ghost use Rattle.std.specs.Prelude.{◌==◌, ◌≡◌, Some, None, MatchResult
 
 use crate::library::Library;
 use crate::refusal::{Refusal, Trouble};
-use space::{Clip, ClipFault, PlanFault, check_clip, check_plan, set_of};
+use space::{Clip, ClipFault, MOST_CLIPS, PlanFault, check_clip, check_plan, set_of};
 use std::alloc::Global;
-
-const CAPACITY: usize = 4096;
 
 // Whether a clip with the number is among the clips.
 fn is_listed(clips: &[Clip], number: u32) -> bool
@@ -42,7 +40,7 @@ impl Library {
         if is_listed(&self.clips, number) {
             return Err(Refusal::Listed);
         }
-        if self.clips.len() >= CAPACITY {
+        if self.clips.len() >= MOST_CLIPS {
             return Err(Refusal::Full);
         }
         Ok(())

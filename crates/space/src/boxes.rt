@@ -9,6 +9,9 @@ const LETTERS: u8 = 64;
 // The most dimensions that a vector, a box or a plan has.
 pub const DIMENSIONS: usize = 10;
 
+// The most clips that are listed, or counted, together.
+pub const MOST_CLIPS: usize = 4096;
+
 // Whether the letter is in the set. A byte above 63 is no letter, and in no set.
 pub fn has(set: u64, letter: u8) -> bool
     ensures { result ≡ has set letter }

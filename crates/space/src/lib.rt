@@ -7,7 +7,9 @@ mod described;
 mod laws;
 mod plan;
 
-pub use boxes::{DIMENSIONS, area, common_area, contains, has, join, point, rewrite, set_of};
+pub use boxes::{
+    DIMENSIONS, MOST_CLIPS, area, common_area, contains, has, join, point, rewrite, set_of,
+};
 pub use clip::{Clip, StoredClip};
 pub use described::Described;
 pub use laws::{areas_stand, around_exact_stands, in_around_stands, in_point_stands};

@@ -1,5 +1,5 @@
 -- The clips of a tree written to a list.
-use Rattle.std.specs.Prelude.{◌≡◌, ℕ, ◌+◌, ◌*◌, ◌/◌, ◌%◌, ◌^◌, List, [], ◌∷◌, length, take, drop, Option, MatchOption, nat_le, slice_index_or}
+use Rattle.std.specs.Prelude.{◌≡◌, ℕ, List, length, take, drop, Option, MatchOption, nat_le}
 use Rattle.space.specs.Boxes.{given}
 use Rattle.space.specs.Row.{Row, stored_rows}
 use Rattle.space.specs.declared.clip.StoredClip.{StoredClip}

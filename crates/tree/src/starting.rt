@@ -13,17 +13,14 @@ use crate::nodes::{Nodes, Subtree};
 use crate::padded::padded;
 use crate::table::Table;
 use refusals::{FitFault, Refusal};
-use space::check_plan;
-
-// The most clips that an index lists.
-const MOST: u32 = 4096;
+use space::{MOST_CLIPS, check_plan};
 
 // Whether a start with that plan, that capacity and a table of so many boxes would stand.
 pub fn fit(plan: &[u8], capacity: u32, boxes: usize) -> Result<(), Refusal>
     ensures { refusal_of result ≡ of_fit plan.now capacity boxes }
 {
     check_plan(plan)?;
-    if !(1..=MOST).contains(&capacity) {
+    if !(1..=MOST_CLIPS).contains(&(capacity as usize)) {
         return Err(Refusal::Fit(FitFault::Capacity));
     }
     if boxes < (capacity as usize / 2).max(1) {
