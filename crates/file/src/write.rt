@@ -29,7 +29,8 @@ fn write_front(output: &mut [u8], plan: &[u8], count: u16) -> usize
     write_at(output, announced, &count.to_le_bytes())
 }
 
-// Writes the numbers of the clips from that place on.
+// Writes the numbers of the clips from that place on. By place: of an output that `chunks_exact_mut` lent out, a proof knows the length
+// afterwards and not the bytes.
 fn write_numbers(output: &mut [u8], start: usize, clips: &[StoredClip]) -> usize
     requires { start + 4 * length clips.now ≤ length output.old }
     ensures bytes { (d : ℕ) → output.new ≡ put start (number_bytes (stored_rows d clips.now)) output.old }
