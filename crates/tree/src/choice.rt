@@ -1,5 +1,5 @@
 // Which entry of an inner box a new clip goes to.
-ghost use Rattle.std.specs.Prelude.{◌≡◌, ℕ, ◌<◌, ◌≤◌, map, length, take};
+ghost use Rattle.std.specs.Prelude.{◌≡◌, ◌<◌, ◌≤◌, map, length, take};
 ghost use Rattle.rules.specs.Choice.{commons, growth, chosen};
 ghost use Rattle.std.specs.List.{AllByRecursion};
 

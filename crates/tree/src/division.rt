@@ -1,7 +1,7 @@
 // How nine entries are divided into two groups.
-ghost use Rattle.std.specs.Prelude.{◌≡◌, ◌/◌, ◌^◌, ◌<◌, ◌≤◌, map, length, take, if◌then◌else◌};
+ghost use Rattle.std.specs.Prelude.{◌≡◌, ◌/◌, ◌^◌, ◌<◌, ◌≤◌, map, length, take};
 ghost use Rattle.rules.specs.Division.{parting, divides, group};
-ghost use Rattle.space.specs.Boxes.{join, around, has};
+ghost use Rattle.space.specs.Boxes.{around, has};
 ghost use Rattle.tree.specs.Nodes.{divided};
 
 use crate::fixed::{Sets, area_of, common_of};
