@@ -42,6 +42,7 @@ fn check_letters(plan: &[u8], count: usize, letters: &[u8]) -> Result<(), RowFau
     ensures { result ≡ unless_fault (letters_fault 1 plan.now (rows_from count (length plan.now) [] letters.now)) }
 {
     let mut rest = letters;
+    // Counted: a plan that was not checked may have no sizes, and rows of no letters are no chunks of a list.
     for index in 0..count {
         let (letters, others) = rest.split_at(plan.len());
         check_row(plan, index + 1, letters)?;

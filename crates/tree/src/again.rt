@@ -21,6 +21,7 @@ impl Nodes {
         ensures free { free.new.places.items ≡ free.old.places.items }
     {
         let mut after = root;
+        // By place: a clip is put together from two of the lent words, so the worklist has none to go over.
         for k in 0..worklist.clips {
             after = self.enter_clip(free, after, worklist.ordered_at(k));
         }
