@@ -22,7 +22,7 @@ fn enter_rows(index: &mut Index, file: &[u8], n: usize)
     requires told { of_load (plan_of index.old) index.old.capacity (rows_in (tree_in index.old)) file.now ≡ None }
     ensures { Loaded index.old index.new file.now n }
 {
-    // By place: an iterator over the rows would hold the plan of the index that each row is entered into.
+    // By place: `row_at` is the one way in which a row of a file is read, and an iterator over it would be longer than this loop.
     for i in 0..n {
         if let Some(clip) = row_at(index.plan(), file, i) {
             let d = index.plan().len();

@@ -4,7 +4,7 @@ ghost use Rattle.file.specs.Writes.{output_after, put, written_length, written};
 ghost use Rattle.rules.specs.File.{bytes_of, header, letter_bytes, number_bytes};
 ghost use Rattle.space.specs.Row.{stored_rows};
 
-use space::{DIMENSIONS, StoredClip};
+use space::{StoredClip, is_dimensions};
 
 // Writes the bytes from that place on, and leaves the others. Answers the place behind them, as do the functions that write the parts of
 // a file.
@@ -74,7 +74,7 @@ pub fn write_file(plan: &[u8], clips: &[StoredClip], output: &mut [u8]) -> Optio
     ensures bytes { output.new ≡ output_after plan.now clips.now output.old result }
 {
     let d = plan.len();
-    if !(1..=DIMENSIONS).contains(&d) {
+    if !is_dimensions(d) {
         return None;
     }
     let count = u16::try_from(clips.len()).ok()?;

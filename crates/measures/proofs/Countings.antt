@@ -1,6 +1,7 @@
 -- The loop over the clips of a library.
-use Rattle.std.proofs.Common.{◌≡◌, ℕ, suc, ◌+◌, ◌<◌, ◌≤◌, Bool, true, false, cond, not, ◌&&◌, eqb, ltb, leb, List, [], ◌∷◌, map, length, get_or, drop, is_some, is_err, Some, None, Option, Result, sym, refl, ap, ◌∙◌, arith}
+use Rattle.std.proofs.Common.{◌≡◌, ℕ, suc, ◌+◌, ◌<◌, ◌≤◌, Bool, true, false, cond, not, ◌&&◌, eqb, ltb, leb, List, [], ◌∷◌, map, length, get_or, drop, is_some, Some, None, Option, Result, sym, refl, ap, ◌∙◌, arith}
 use lib.ListN.{length-map}
+use Rattle.std.specs.Result.{result_ok}
 use Rattle.std.proofs.lemmas.List.{drop_more, get_or-map}
 use Rattle.std.proofs.lemmas.Bool.{and_parts, leb-true, le-ltb}
 use Rattle.std.proofs.lemmas.Bool.Decides.{nat_tests}
@@ -119,19 +120,19 @@ not_plan plan rows h = ap (λ t. limits plan (length rows) && t) h ∙ last (lim
 
 -- ---- the check of one clip
 module _ (plan v : List ℕ) (r : Result (Unit {0}) ClipFault) (is : r ≡ unless_fault (vector_fault plan v)) where
-  pub fault_some : true ≡ is_err r → is_some (vector_fault plan v) ≡ true
-  fault_some h = go (vector_fault plan v) (h ∙ ap is_err is)
+  pub fault_some : None ≡ result_ok r → is_some (vector_fault plan v) ≡ true
+  fault_some h = go (vector_fault plan v) (h ∙ ap result_ok is)
     where
-      go : (f : Option ClipFault) → true ≡ is_err (unless_fault f) → is_some f ≡ true
-      go None e = sym e
+      go : (f : Option ClipFault) → None ≡ result_ok (unless_fault f) → is_some f ≡ true
+      go None e = cc
       go (Some x) e = refl
 
-  pub fault_none : false ≡ is_err r → vector_fault plan v ≡ None
-  fault_none h = go (vector_fault plan v) (h ∙ ap is_err is)
+  pub fault_none : {x : Unit {0}} → Some x ≡ result_ok r → vector_fault plan v ≡ None
+  fault_none h = go (vector_fault plan v) (h ∙ ap result_ok is)
     where
-      go : (f : Option ClipFault) → false ≡ is_err (unless_fault f) → f ≡ None
+      go : (f : Option ClipFault) {x : Unit {0}} → Some x ≡ result_ok (unless_fault f) → f ≡ None
       go None e = refl
-      go (Some x) e = absurd (let z : ◌≡◌ {A = ℕ} 0 1 = cc in omega arith)
+      go (Some y) e = cc
 
 -- ---- nothing is counted beyond the plan
 beyond_plan : (plan : List ℕ) (rows : List Row) → of_plan plan rows ≡ true → (i l : ℕ) → length plan ≤ i → count_at i l rows ≡ 0

@@ -1,10 +1,12 @@
 -- What a bar leaves of a box.
-use Rattle.std.specs.Prelude.{◌≡◌, ℕ, zero, suc, ◌/◌, ◌%◌, ◌^◌, ◌<◌, true, false, not, ◌&&◌, List, [], ◌∷◌, length, ◌==◌, bit_and, bit_xor, nat_eq, nat_lt, refl}
-use Rattle.std.proofs.Common.{ap, ◌∙◌, arith}
+use Rattle.std.specs.Prelude.{◌≡◌, ℕ, zero, suc, ◌+◌, ◌/◌, ◌%◌, ◌^◌, ◌<◌, ◌≤◌, true, false, not, ◌&&◌, List, [], ◌∷◌, ◌++◌, length, take, drop, ◌==◌, bit_and, bit_xor, nat_eq, nat_lt, slice_index, slice_set, refl}
+use Rattle.std.proofs.Common.{sym, ap, ap₂, ◌∙◌, arith}
 use Rattle.std.proofs.lemmas.Nat.{shr_le, xor_shr, and_shr, xor_mod, and_mod, and_le_l, xor_lt}
+use Rattle.std.proofs.lemmas.List.{take_all, append-nil}
 use Rattle.std.proofs.lemmas.Bool.{and_parts, and_from, ltb-true, lt-ltb}
 use Rattle.std.proofs.lemmas.Bool.Decides.{nat_tests}
 use Rattle.space.specs.Boxes.{has, in_box, words}
+use Rattle.space.proofs.Steps.{two_more, one_all, write_more}
 use Rattle.measures.specs.Layers.{without, WithoutHas, barred, spared, gap}
 
 bit_without : (p q : ℕ) → p < 2 → q < 2 → (bit_xor p (bit_and p q) == 1) ≡ (p == 1 && not (q == 1))
@@ -69,3 +71,17 @@ no_gap (l ∷ v) (m ∷ b) h =
     let one = has_some m l p.0 in
     let more = no_gap v b p.1 in
     grind arith
+
+-- the loop that writes what is left of a box
+abbrev pub Spared : List ℕ → List ℕ → List ℕ → ℕ → Type 0
+Spared bars b left i = take i left ++ spared (drop i bars) (drop i b) ≡ spared bars b
+
+pub spared_more : (bars b left : List ℕ) (i : ℕ) → i < length bars → i < length b → i < length left → Spared bars b left i
+    → Spared bars b (slice_set left i (without (slice_index b i) (slice_index bars i))) (i + 1)
+spared_more bars b left i h k n going =
+    write_more left i (without (slice_index b i) (slice_index bars i)) (spared (drop (i + 1) bars) (drop (i + 1) b)) n
+    ∙ ap (λ t. take i left ++ t) (sym (two_more spared bars b i h k)) ∙ going
+
+pub spared_all : (bars b left : List ℕ) (i : ℕ) → length b ≤ i → length left ≤ i → Spared bars b left i → left ≡ spared bars b
+spared_all bars b left i h n going =
+    sym (ap₂ (λ x y. x ++ y) (take_all i left n) (one_all (spared (drop i bars)) b i h) ∙ append-nil left) ∙ going

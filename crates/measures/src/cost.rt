@@ -3,7 +3,7 @@ ghost use Rattle.std.specs.Prelude.{◌≡◌, ℕ, ◌<◌, ◌≤◌, length};
 ghost use Rattle.measures.specs.Costs.{CostRule, vectors, vector_and_box, vector_costs, box_costs, one_d};
 ghost use Rattle.space.specs.Boxes.{small};
 
-use space::DIMENSIONS;
+use space::is_dimensions;
 
 // What the query's letter costs in a dimension, counted from 0, beside a letter, and beside a set of letters.
 pub(crate) trait Cost {
@@ -26,7 +26,7 @@ pub(crate) trait Cost {
 pub(crate) fn is_one_d(a: usize, b: usize) -> bool
     ensures { result ≡ one_d a b }
 {
-    (1..=DIMENSIONS).contains(&a) && a == b
+    is_dimensions(a) && a == b
 }
 
 // Whether all letters are up to 63.

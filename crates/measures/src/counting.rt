@@ -65,9 +65,7 @@ impl Count {
         let mut numbers = no_numbers();
         for clip in clips {
             let letters = clip.letters(plan.len());
-            if check_vector(plan, letters).is_err() {
-                return None;
-            }
+            check_vector(plan, letters).ok()?;
             count_letters(&mut numbers, letters);
         }
         Some(Count {

@@ -1,10 +1,10 @@
 -- Areas and common areas.
-use Rattle.std.proofs.Common.{◌≡◌, ℕ, suc, ◌+◌, ◌*◌, ◌^◌, ◌<◌, ◌≤◌, Bool, true, false, cond, eqb, ltb, leb, List, [], ◌∷◌, length, get_or, drop, sym, refl, ap, ◌∙◌, mul_assoc, mul_comm, mul-le-mul, pow-suc, zero-mul, mul-one, add-one, arith}
+use Rattle.std.proofs.Common.{◌≡◌, ℕ, suc, ◌+◌, ◌*◌, ◌^◌, ◌<◌, ◌≤◌, Bool, true, false, cond, ◌&&◌, eqb, ltb, leb, List, [], ◌∷◌, length, get_or, drop, Some, sym, refl, ap, ◌∙◌, mul_assoc, mul_comm, mul-le-mul, pow-suc, zero-mul, mul-one, add-one, arith}
 use native.Mathlib.Nat.{pow-le-pow_right}
 use lib.Bits.{bit_and, and_le_l}
 use lib.Count.{ones, ones-le}
-use Rattle.std.proofs.lemmas.Bool.{eqb-true, leb-true, ltb-true, and_parts}
-use Rattle.space.specs.Boxes.{area, common, meet, dimensions, words}
+use Rattle.std.proofs.lemmas.Bool.{eqb-true, eq-eqb, leb-true, ltb-true, and_parts, and_from}
+use Rattle.space.specs.Boxes.{area, common, meet, dimensions, words, given, common_of}
 use Rattle.space.proofs.Steps.{one_more, one_all}
 
 -- from 1 to 10
@@ -63,3 +63,10 @@ area_most (m ∷ b) h =
     let e : ones m * area b ≡ area b * ones m = mul_comm (ones m) (area b) in
     let n : 64 ^ suc (length b) ≡ 64 ^ (length b + 1) = ap (λ i. 64 ^ i) (sym (add-one (length b))) in
     omega arith
+
+-- the answer where both are boxes of one d
+pub common_given : (a b : List ℕ) (x : ℕ) → dimensions (length a) ≡ true → length a ≡ length b → x ≡ common a b → x ≤ 64 ^ length a
+    → record { value : Some x ≡ common_of a b; area : Some x ≡ Some (area (meet a b)); most : x ≤ 64 ^ length a }
+common_given a b x d e h m =
+    let t : (dimensions (length a) && eqb (length a) (length b)) ≡ true = and_from (dimensions (length a)) _ d (eq-eqb _ _ e) in
+    record { value = ap Some h ∙ ap (λ u. given u (common a b)) (sym t); area = ap Some (h ∙ common_meet a b e); most = m }

@@ -1,7 +1,7 @@
 -- The steps of loops that go through one list or two side by side, and of loops that write a list in place.
-use Rattle.std.proofs.Common.{◌≡◌, ℕ, ◌+◌, ◌<◌, ◌≤◌, min, List, [], ◌∷◌, length, get_or, take, drop, sym, ap, ◌∙◌, ap₂, ⊎_elim, arith}
+use Rattle.std.proofs.Common.{◌≡◌, ℕ, ◌+◌, ◌<◌, ◌≤◌, min, List, [], ◌∷◌, ◌++◌, length, get_or, take, drop, set, sym, ap, ◌∙◌, ap₂, ⊎_elim, arith}
 use Rattle.std.proofs.lemmas.Bool.{cases_lt}
-use Rattle.std.proofs.lemmas.List.{drop_more, drop_all, take_all}
+use Rattle.std.proofs.lemmas.List.{drop_more, drop_all, take_all, take_more_set, append_assoc}
 
 -- what a function of the rest of a list sees at the next turn
 pub one_more : {X Y : Type 0} (f : List X → Y) (xs : List X) (d : X) (i : ℕ) → i < length xs → f (drop i xs) ≡ f (get_or xs i d ∷ drop (i + 1) xs)
@@ -17,6 +17,10 @@ two_more f xs ys i h k = ap₂ f (drop_more xs i 0 h) (drop_more ys i 0 k)
 
 pub two_all : {Y : Type 0} (f : List ℕ → List ℕ → Y) (xs ys : List ℕ) (i : ℕ) → length xs ≤ i → length ys ≤ i → f (drop i xs) (drop i ys) ≡ f [] []
 two_all f xs ys i h k = ap₂ f (drop_all i xs h) (drop_all i ys k)
+
+-- one element written: what stands before it grows by it
+pub write_more : {X : Type 0} (s : List X) (i : ℕ) (x : X) (rest : List X) → i < length s → take (i + 1) (set s i x) ++ rest ≡ take i s ++ (x ∷ rest)
+write_more s i x rest h = ap (λ t. t ++ rest) (take_more_set s i x h) ∙ append_assoc (take i s) (x ∷ []) rest
 
 -- the first n of a list that is no longer than cap
 pub take_min : {X : Type 0} (s : List X) (n cap : ℕ) → length s ≡ cap → take (min n cap) s ≡ take n s

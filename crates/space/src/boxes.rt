@@ -65,7 +65,7 @@ pub fn point(sets: &mut [u64], vector: &[u8])
 }
 
 // Whether a vector, a box or a plan can have so many dimensions.
-pub(crate) fn is_dimensions(d: usize) -> bool
+pub fn is_dimensions(d: usize) -> bool
     ensures { result ≡ dimensions d }
 {
     (1..=DIMENSIONS).contains(&d)

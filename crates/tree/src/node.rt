@@ -23,10 +23,7 @@ impl NodeEntry {
     {
         match self {
             NodeEntry::Clip(c) => c,
-            _ => StoredClip {
-                number: 0,
-                letters: [0; 10],
-            },
+            _ => StoredClip::default(),
         }
     }
 

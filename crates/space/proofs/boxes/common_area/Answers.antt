@@ -1,7 +1,7 @@
-use Rattle.std.proofs.Common.{◌≡◌, suc, ◌+◌, ◌*◌, ◌^◌, ◌<◌, ◌≤◌, get_or, length, Some, sym, ap, ap₂, ◌∙◌, mul_assoc, mul-one, length-append, arith, rules}
+use Rattle.std.proofs.Common.{◌≡◌, suc, ◌+◌, ◌*◌, ◌^◌, ◌<◌, ◌≤◌, get_or, length, sym, ap, ap₂, ◌∙◌, mul_assoc, mul-one, length-append, arith, rules}
 use Rattle.std.proofs.lemmas.Iterator.{empty_from_Zip}
 use Rattle.space.specs.Boxes.{common}
-use Rattle.space.proofs.Areas.{dimensions_most, power_more, power_fits, common_few, common_meet, common_product}
+use Rattle.space.proofs.Areas.{dimensions_most, power_more, power_fits, common_few, common_given, common_product}
 use Rattle.space.proofs.boxes.common_area.Goals as goal
 use Rattle.space.proofs.boxes.common_area.Goals.{After-from-product}
 
@@ -21,11 +21,11 @@ next_value c =
     ∙ ap (λ x. p * x) (ap (λ n. n * rest) c.from-product.ensures ∙ sym (common_product _ _ _ _) ∙ sym (ap₂ common steps.0 steps.1))
     ∙ c.loop-set.invariant.value
 
-pub returns-then-letters-eq0-clause-area : goal.returns-then-letters-eq0-clause-area
-returns-then-letters-eq0-clause-area c =
+pub returns-then-letters-eq0 : goal.returns-then-letters-eq0
+returns-then-letters-eq0 c =
     let a = c.args.a.now in let b = c.args.b.now in
     let e : 0 ≡ common a b = search rules in
-    ap Some (e ∙ common_meet a b c.if-a-b.false)
+    common_given a b 0 (sym c.if-not-is_dimensions.ensures) c.if-a-b.false e (omega arith)
 
 pub overflow_mul-product : goal.overflow_mul-product
 overflow_mul-product c =
@@ -46,10 +46,14 @@ loop-set-preserved c = record {
   even = let e = ap length c.in-Some.ensures.steps.0 in let f = ap length c.in-Some.ensures.steps.1 in let even = c.loop-set.invariant.even in omega arith;
 }
 
-pub returns-clause-area : goal.returns-clause-area
-returns-clause-area c =
+pub returns : goal.returns
+returns c =
     let a = c.args.a.now in let b = c.args.b.now in
     let z = empty_from_Zip c.loop-set.set-iterator c.next.new.self c.next.result c.in-None.is c.next.ensures.steps c.loop-set.invariant.even in
     let p = c.loop-set.product in
     let e = sym (mul-one p) ∙ ap (λ n. p * n) (sym (ap₂ common z.0 z.1)) ∙ c.loop-set.invariant.value in
-    ap Some (e ∙ common_meet a b c.if-a-b.false)
+    let far = c.loop-set.invariant.far in
+    let end = ap length z.0 in
+    let most = c.loop-set.invariant.most in
+    let n : length c.loop-set.yielded ≡ length a = omega arith in
+    common_given a b p (sym c.if-not-is_dimensions.ensures) c.if-a-b.false e (rw n at most)

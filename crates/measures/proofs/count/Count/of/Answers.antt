@@ -1,4 +1,4 @@
-use Rattle.std.proofs.Common.{true, false, map, length, sym, refl, arith}
+use Rattle.std.proofs.Common.{rules, ◌≡◌, None, true, false, map, length, sym, refl, ◌∙◌, arith}
 use lib.ListN.{length-map}
 use Rattle.std.proofs.lemmas.Bool.{and_from}
 use Rattle.measures.specs.Counts.{limits, of_plan}
@@ -12,17 +12,18 @@ returns-then-not-is_within_limits g c =
     let row = g.C.Described.row (length plan) in
     not_limits plan (map row clips) (limits_rows row plan clips false c.if-not-is_within_limits.ensures)
 
-pub returns-then-is_err : goal.returns-then-is_err
-returns-then-is_err g c =
+pub returns-in_err-ok : goal.returns-in_err-ok
+returns-in_err-ok g c =
     let plan = c.args.plan.now in
     let clips = c.args.clips.now in
     let row = g.C.Described.row (length plan) in
     let r = row c.clip-item.result in
     let n = length-map clips row in
     let v = c.letters-letters.result.now in
-    let f = fault_some plan v c.check_vector.result c.check_vector.ensures c.if-is_err.ensures.value in
-    not_plan plan (map row clips) (counted_stop plan (map row clips) c.loop-clip.numbers c.loop-clip.clip-index c.loop-clip.invariant r (omega arith)
-    (row_at row clips c.clip-item.result c.loop-clip.clip-index (omega arith) c.clip-item.is) v c.letters-letters.ensures f)
+    let f = fault_some plan v c.check_vector.result c.check_vector.ensures (sym c.in_err-ok.was ∙ c.ok.ensures.value) in
+    let none : c.from_residual.result ≡ None = search rules in
+    rw none (not_plan plan (map row clips) (counted_stop plan (map row clips) c.loop-clip.numbers c.loop-clip.clip-index c.loop-clip.invariant r (omega arith)
+    (row_at row clips c.clip-item.result c.loop-clip.clip-index (omega arith) c.clip-item.is) v c.letters-letters.ensures f))
 
 pub count_letters-requires : goal.count_letters-requires
 count_letters-requires g c =
@@ -31,7 +32,7 @@ count_letters-requires g c =
     let row = g.C.Described.row (length plan) in
     let v = c.letters-letters.result.now in
     let l = limits_parts plan (length clips) (sym c.if-not-is_within_limits.ensures) in
-    let s = vector_small plan v l.0 (fault_none plan v c.check_vector.result c.check_vector.ensures c.if-is_err.ensures.value) in
+    let s = vector_small plan v l.0 (fault_none plan v c.check_vector.result c.check_vector.ensures (sym c.in_ok-ok.was ∙ c.ok.ensures.value)) in
     let n = length-map clips row in
     let m = l.2 in
     record {
@@ -54,7 +55,7 @@ loop-clip-preserved g c =
     let r = row c.clip-item.result in
     let n = length-map clips row in
     let v = c.letters-letters.result.now in
-    let f = fault_none plan v c.check_vector.result c.check_vector.ensures c.if-is_err.ensures.value in
+    let f = fault_none plan v c.check_vector.result c.check_vector.ensures (sym c.in_ok-ok.was ∙ c.ok.ensures.value) in
     counted_more plan (map row clips) c.loop-clip.numbers c.loop-clip.clip-index c.loop-clip.invariant r (omega arith)
     (row_at row clips c.clip-item.result c.loop-clip.clip-index (omega arith) c.clip-item.is) v c.letters-letters.ensures f
     c.count_letters.new.numbers c.count_letters.ensures.shape c.count_letters.ensures.numbers
