@@ -37,6 +37,7 @@ fn load_file(index: &mut Index, file: &[u8]) -> Result<usize, Refusal>
     ensures rows { IfOk result (λ n. n ≡ length (file_rows (plan_of index.old) file.now)) }
 {
     let n = check_file(index.plan(), file)?;
+    // By `as`, which is proved to lose nothing: between u32 and usize there is no From.
     if n > index.capacity() as usize {
         return Err(Refusal::State(StateFault::Full));
     }

@@ -43,7 +43,7 @@ impl FileFault {
         }
     }
 
-    // The dimension of the first letter at fault, from 1; else 0.
+    // The dimension of the first letter at fault, from 1; else 0, by which the rules tell none.
     pub fn place(self) -> usize
         ensures { result ≡ file_place self }
     {
@@ -53,7 +53,7 @@ impl FileFault {
         }
     }
 
-    // The row at fault, from 1; else 0.
+    // The row at fault, from 1; else 0, by which the rules tell none.
     pub fn row(self) -> usize
         ensures { result ≡ file_row self }
     {

@@ -24,6 +24,7 @@ fn write_front(output: &mut [u8], plan: &[u8], count: u16) -> usize
     ensures bytes { output.new ≡ put 0 (header plan.now ++ bytes_of 2 count) output.old }
     ensures end { result ≡ 3 + length plan.now }
 {
+    // By `as`: at most ten sizes fit a byte, and a try_from would have a branch that is never taken.
     let sizes = write_at(output, 0, &[plan.len() as u8]);
     let announced = write_at(output, sizes, plan);
     write_at(output, announced, &count.to_le_bytes())

@@ -70,6 +70,7 @@ impl Count {
         }
         Some(Count {
             dimensions: plan.len(),
+            // By `as`: at most 4,096 fit, and a try_from would have a branch that is never taken.
             total: clips.len() as u32,
             numbers,
         })
@@ -90,6 +91,7 @@ impl Count {
     pub fn grade(&self, distance: u32) -> u32
         ensures { result ≡ geh_grade self.now.dimensions self.now.total distance }
     {
+        // By `as`: there are at most ten.
         distance / (self.dimensions as u32 * self.total)
     }
 }

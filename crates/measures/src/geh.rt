@@ -42,6 +42,7 @@ impl Geh {
     fn unlike_cost(&self) -> u32
         ensures { result ≡ self.now.count.dimensions * self.now.count.total }
     {
+        // By `as`: there are at most ten.
         self.count.dimensions as u32 * self.count.total
     }
 

@@ -84,6 +84,7 @@ impl Library {
         ensures { MatchResult result (Answers self.now count query.items) (Refuses (ask_fault self.now count query.items)) }
     {
         self.check_query(count, &query)?;
+        // By `as`, which is proved to lose nothing: between u32 and usize there is no From.
         let most = count as usize;
         let hamming = nearest_finds(heap, &Hamming, &query, &self.clips, most)?;
         let geh = self.nearest_by_geh(heap, most, &query)?;

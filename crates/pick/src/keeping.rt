@@ -60,6 +60,7 @@ impl Library {
     pub fn bar(&mut self, dimension: u32, letter: u8) -> Result<(), Refusal>
         ensures { MatchResult result (λ _. (bar_fault self.old dimension letter ≡ None) × Barred self.old self.new dimension letter) (λ e. (bar_fault self.old dimension letter ≡ Some e) × (self.new ≡ self.old)) }
     {
+        // By `as`, which is proved to lose nothing: between u32 and usize there is no From.
         let place = dimension as usize;
         let index = place.checked_sub(1).ok_or(Refusal::NoDimension)?;
         let size = self.plan.get(index).ok_or(Refusal::NoDimension)?;

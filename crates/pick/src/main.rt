@@ -56,6 +56,7 @@ fn answer_all(rt: &HostRuntime, input: &[u8], was_cut: bool) -> anyhow::Result<(
 
 fn run(rt: &HostRuntime) -> anyhow::Result<()> {
     let mut input = Vec::new(rt.alloc());
+    // By `as`: a constant, and between usize and u64 there is no From.
     rt.stdin().take(LIMIT as u64 + 1).read_to_end(&mut input)?;
     let was_cut = input.len() > LIMIT;
     input.truncate(LIMIT);

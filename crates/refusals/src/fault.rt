@@ -47,7 +47,7 @@ impl FitFault {
         }
     }
 
-    // The dimension of the first size at fault, from 1; else 0.
+    // The dimension of the first size at fault, from 1; else 0, by which the rules tell none.
     pub fn place(self) -> usize
         ensures { result ≡ fit_place self }
     {

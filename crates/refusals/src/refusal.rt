@@ -86,16 +86,15 @@ impl Refusal {
     pub fn layer(self) -> Layer
         ensures { layer_number result ≡ layer_of (numbered self).number }
     {
-        match self.number() {
-            0..=3 => Layer::Plan,
-            4..=6 => Layer::File,
-            7..=9 => Layer::Clip,
-            10 => Layer::Search,
-            _ => Layer::Catalogue,
+        match self {
+            Refusal::Fit(_) => Layer::Plan,
+            Refusal::File(FileFault::Row(_)) | Refusal::Clip(_) => Layer::Clip,
+            Refusal::File(_) => Layer::File,
+            Refusal::State(_) => Layer::Catalogue,
         }
     }
 
-    // The first dimension at fault, from 1, or 0.
+    // The first dimension at fault, from 1, or 0, by which the rules tell none.
     pub fn place(self) -> usize
         ensures { result ≡ (numbered self).place }
     {
@@ -107,7 +106,7 @@ impl Refusal {
         }
     }
 
-    // The row of a file at fault, from 1, or 0.
+    // The row of a file at fault, from 1, or 0, by which the rules tell none.
     pub fn row(self) -> usize
         ensures { result ≡ (numbered self).row }
     {

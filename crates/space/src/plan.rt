@@ -29,7 +29,7 @@ impl PlanFault {
         }
     }
 
-    // The dimension of the first size at fault, from 1; 0 where there are too few sizes or too many.
+    // The dimension of the first size at fault, from 1; 0, by which the rules tell none, where there are too few sizes or too many.
     pub fn place(self) -> usize
         ensures { result ≡ plan_place self }
     {
@@ -52,7 +52,7 @@ impl ClipFault {
         }
     }
 
-    // The dimension of the first letter at fault, from 1; else 0.
+    // The dimension of the first letter at fault, from 1; else 0, by which the rules tell none.
     pub fn place(self) -> usize
         ensures { result ≡ clip_place self }
     {

@@ -28,6 +28,7 @@ pub(crate) fn unpacked(word: u64) -> [u8; 10]
     let mut letters = [0; 10];
     let mut rest = word;
     for letter in letters.iter_mut() {
+        // By `as`, here and below: what a remainder or a quotient fits is proved, and a try_from would have a branch that is never taken.
         *letter = (rest % 64) as u8;
         rest /= 64;
     }

@@ -71,6 +71,7 @@ impl Index {
         if self.lists(number) {
             return Err(Refusal::State(StateFault::Listed));
         }
+        // By `as`, which is proved to lose nothing: between u32 and usize there is no From.
         if self.clips >= self.capacity as usize {
             return Err(Refusal::State(StateFault::Full));
         }

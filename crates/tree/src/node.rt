@@ -38,7 +38,8 @@ impl NodeEntry {
     }
 }
 
-// A box of the tree: its sets of letters, and its entries, of which the first `len` are in use.
+// A box of the tree: its sets of letters, and its entries, of which the first `len` are in use. An array with a length beside, since the boxes of a
+// table lie in one piece of memory and are copied.
 #[derive(Clone, Copy)]
 pub struct Node {
     pub(crate) sets: Sets,

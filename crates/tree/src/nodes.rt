@@ -3,7 +3,7 @@ ghost use Rattle.std.specs.Prelude.{◌≤◌};
 
 use crate::node::Node;
 
-// The boxes of a tree of so many dimensions, each at a place.
+// The boxes of a tree of so many dimensions, each at a place, and not in one another: a table takes its memory once, and an index none.
 #[derive(Drop)]
 pub struct Nodes {
     pub(crate) dims: usize,

@@ -20,6 +20,7 @@ pub fn fit(plan: &[u8], capacity: u32, boxes: usize) -> Result<(), Refusal>
     ensures { refusal_of result ≡ of_fit plan.now capacity boxes }
 {
     check_plan(plan)?;
+    // By `as`, here and below, which is proved to lose nothing: between u32 and usize there is no From.
     if !(1..=MOST_CLIPS).contains(&(capacity as usize)) {
         return Err(Refusal::Fit(FitFault::Capacity));
     }

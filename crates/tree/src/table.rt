@@ -4,6 +4,7 @@ ghost use Rattle.std.specs.Prelude.{◌≡◌, ℕ, ◌<◌, ◌≤◌, vec_len,
 use crate::node::Node;
 
 // Places for boxes, and a stack of those not in use, here all of them. There are some places more than the boxes that were asked for.
+// All memory of an index is taken here, once, so boxes are named by their places.
 #[derive(Drop)]
 pub struct Table {
     pub(crate) nodes: Vec<Node>,
