@@ -19,11 +19,11 @@ impl Cost for Hamming {
     ghost rule = { λ m. hamming_costs };
 
     fn letter_cost(&self, _dimension: usize, query: u8, letter: u8) -> u32 {
-        if query == letter { 0 } else { 1 }
+        u32::from(query != letter)
     }
 
     fn set_cost(&self, _dimension: usize, query: u8, set: u64) -> u32 {
-        if has(set, query) { 0 } else { 1 }
+        u32::from(!has(set, query))
     }
 }
 

@@ -70,7 +70,7 @@ pub fn check_plan(sizes: &[u8]) -> Result<(), PlanFault>
     if !is_dimensions(sizes.len()) {
         return Err(PlanFault::Dimensions);
     }
-    let fault = sizes.iter().position(|size| *size < 1 || *size > 64);
+    let fault = sizes.iter().position(|size| !(1..=64).contains(size));
     fault.map_or(Ok(()), |i| Err(PlanFault::Size(i + 1)))
 }
 

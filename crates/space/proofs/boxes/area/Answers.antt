@@ -25,12 +25,3 @@ loop-set-preserved c =
           ∙ sym (area_more c.loop-set.product i b (omega arith)) ∙ c.loop-set.invariant.0,
       next_most c,
     )
-
-pub returns : goal.returns
-returns c =
-    let b = c.args.sets.now in
-    let i = c.loop-set.set-index in
-    let e : c.loop-set.product ≡ area b = sym (area_all c.loop-set.product i b (omega arith)) ∙ c.loop-set.invariant.0 in
-    let n : i ≡ length b = omega arith in
-    let most = c.loop-set.invariant.1 in
-    record { value = ap Some e ∙ ap (λ t. given t (area b)) c.if-not-is_dimensions.ensures; most = rw n at most }
