@@ -53,7 +53,7 @@ fn letters_of(clip: &StoredClip, d: usize) -> &[u8]
     &clip.letters[..d]
 }
 
-// Writes the letters of the clips, d of each, from that place on.
+// Writes the letters of the clips, d of each, from that place on; by place, as the numbers.
 fn write_letters(output: &mut [u8], start: usize, d: usize, clips: &[StoredClip]) -> usize
     requires { (d ≤ 10) × (start + d * length clips.now ≤ length output.old) }
     ensures bytes { output.new ≡ put start (letter_bytes (stored_rows d clips.now)) output.old }
