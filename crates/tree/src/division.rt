@@ -4,6 +4,7 @@ ghost use Rattle.rules.specs.Division.{parting, divides, group};
 ghost use Rattle.space.specs.Boxes.{around, has};
 ghost use Rattle.tree.specs.Nodes.{divided};
 
+use crate::entries::Entries;
 use crate::fixed::{Sets, area_of, common_of};
 use crate::node::NodeEntry;
 
@@ -75,18 +76,16 @@ pub(crate) fn best_division(boxes: &[Sets], dims: usize) -> usize
         .map_or(14, |best| best.code)
 }
 
-// Those entries that the code puts in one group, and how many they are.
-pub(crate) fn group_of(code: usize, second: bool, entries: &[NodeEntry]) -> ([NodeEntry; 9], usize)
+// Those entries that the code puts in one group.
+pub(crate) fn group_of(code: usize, second: bool, entries: &[NodeEntry]) -> Entries
     requires { length entries.now ≤ 9 }
-    ensures { (take result.1 result.0 ≡ group second code entries.now) × (result.1 ≤ 9) }
+    ensures { result ≡ group second code entries.now }
 {
-    let mut out = [NodeEntry::Free; 9];
-    let mut n = 0;
+    let mut out = Entries::new();
     for (i, e) in entries.iter().enumerate() {
         if in_code(code, i) == second {
-            out[n] = *e;
-            n += 1;
+            out.push(*e);
         }
     }
-    (out, n)
+    out
 }

@@ -7,6 +7,7 @@ mod calls;
 mod choice;
 mod division;
 mod entering;
+mod entries;
 mod fixed;
 mod free;
 mod index;

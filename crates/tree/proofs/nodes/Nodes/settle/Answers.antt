@@ -21,7 +21,7 @@ pub write-requires-2 : goal.write-requires-2
 write-requires-2 c =
     let nine : length c.args.entries.now ≡ 9 = omega arith in
     let h : Code c.best_division-code.result = subst Code (sym c.best_division-code.ensures) (divided_code c.args.self.now.dims (map (take c.args.self.now.dims) c.boxes_of-boxes.result)) in
-    let e = c.group_of-n.ensures.0 in
+    let e = c.as_slice.ensures ∙ c.group_of-stay.ensures in
     let f = side_few false c.best_division-code.result c.args.entries.now _ e nine h in
     record {
       few = f.1;
@@ -33,8 +33,8 @@ pub write-requires-3 : goal.write-requires-3
 write-requires-3 c =
     let nine : length c.args.entries.now ≡ 9 = omega arith in
     let h : Code c.best_division-code.result = subst Code (sym c.best_division-code.ensures) (divided_code c.args.self.now.dims (map (take c.args.self.now.dims) c.boxes_of-boxes.result)) in
-    let e = c.group_of-m.ensures.0 in
-    let g = c.group_of-n.ensures.0 in
+    let e = c.as_slice-2.ensures ∙ c.group_of-leave.ensures in
+    let g = c.as_slice.ensures ∙ c.group_of-stay.ensures in
     let f = side_few true c.best_division-code.result c.args.entries.now _ e nine h in
     let p = subst (λ x. Written c.args.self.now.dims c.args.self.now.places.items c.write-2.new.self.places.items c.args.at.height c.args.at.place x) g c.write-2.ensures.written in
     let s = second_side c.args.self.now.dims c.args.self.now.places.items c.args.at.height c.args.at.place c.args.spare c.args.entries.now c.requires.within c.requires.apart c.requires.sound
@@ -49,10 +49,10 @@ pub returns-clause-fitted : goal.returns-clause-fitted
 returns-clause-fitted c =
     let nine : length c.args.entries.now ≡ 9 = omega arith in
     let h : Code c.best_division-code.result = subst Code (sym c.best_division-code.ensures) (divided_code c.args.self.now.dims (map (take c.args.self.now.dims) c.boxes_of-boxes.result)) in
-    let e = c.group_of-m.ensures.0 in
-    let g = c.group_of-n.ensures.0 in
+    let e = c.as_slice-2.ensures ∙ c.group_of-leave.ensures in
+    let g = c.as_slice.ensures ∙ c.group_of-stay.ensures in
     let p = subst (λ x. Written c.args.self.now.dims c.args.self.now.places.items c.write-2.new.self.places.items c.args.at.height c.args.at.place x) g c.write-2.ensures.written in
-    let q = subst (λ x. Written c.args.self.now.dims c.write-2.new.self.places.items c.write-3.new.self.places.items c.args.at.height c.args.spare x) e (subst (λ d. Written d c.write-2.new.self.places.items c.write-3.new.self.places.items c.args.at.height c.args.spare (take c.group_of-m.result.1 c.group_of-m.result.0)) c.write-2.ensures.dims c.write-3.ensures.written) in
+    let q = subst (λ x. Written c.args.self.now.dims c.write-2.new.self.places.items c.write-3.new.self.places.items c.args.at.height c.args.spare x) e (subst (λ d. Written d c.write-2.new.self.places.items c.write-3.new.self.places.items c.args.at.height c.args.spare c.as_slice-2.result.now) c.write-2.ensures.dims c.write-3.ensures.written) in
     let ten : length c.boxes_of-boxes.result ≡ length c.args.entries.now = search rules in
     settled_two c.args.self.now.dims c.args.self.now.places.items c.args.at.height c.args.at.place c.args.spare c.args.entries.now c.requires.within c.requires.apart c.requires.sound
     c.write-2.new.self.places.items c.write-3.new.self.places.items c.best_division-code.result c.requires.room nine h p q
