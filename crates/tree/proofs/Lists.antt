@@ -29,9 +29,6 @@ alike_beq true false = refl
 alike_beq false true = refl
 alike_beq false false = refl
 
-pub cut : {X : Type 0} (n : ℕ) (xs : List X) → take (n - 0) xs ≡ take n xs
-cut n xs = let z : n - 0 ≡ n = omega arith in ap (λ m. take m xs) z
-
 -- the entry at p, put behind the others of es by a rotation, and left out
 pub rotated_out : {X : Type 0} (es rest all ys : List X) (p : ℕ) → p < length es → all ≡ es ++ rest → let part = take (length es - p) (drop p all) in ys ≡ drop 1 part ++ take 1 part
     → take (length es - 1) (put_mid p (length es - p) all ys) ≡ take p es ++ drop (suc p) es

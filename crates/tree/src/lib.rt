@@ -3,6 +3,7 @@
 
 mod again;
 mod aside;
+mod boxes;
 mod calls;
 mod choice;
 mod division;

@@ -4,7 +4,8 @@ ghost use Rattle.rules.specs.Tree.{sets_of};
 ghost use Rattle.std.specs.List.{AllByRecursion};
 ghost use Rattle.tree.specs.Nodes.{Sound, SoundIn, entry_of, boxes_of, Written, Fitted, one, total, times, inside, node};
 
-use crate::division::{best_division, group_of};
+use crate::boxes::Boxes;
+use crate::division::group_of;
 use crate::entries::Entries;
 use crate::fixed::{Sets, box_around, point_of};
 use crate::node::{Node, NodeEntry};
@@ -27,8 +28,7 @@ impl Nodes {
     pub(crate) fn boxes_of(&self, height: usize, entries: &[NodeEntry]) -> [Sets; 9]
         requires few { length entries.now ≤ 9 }
         requires sound { AllByRecursion (Sound self.now.places.items height) entries.now }
-        ensures long { AllByRecursion (λ b. length b ≡ 10) result }
-        ensures boxes { map (take self.now.dims) (take (length entries.now) result) ≡ boxes_of self.now.dims self.now.places.items height entries.now }
+        ensures { map (take self.now.dims) (take (length entries.now) result) ≡ boxes_of self.now.dims self.now.places.items height entries.now }
     {
         // By index: after a zip with iter_mut the proof has not the boxes that were written.
         let mut boxes = [[0; 10]; 9];
@@ -67,7 +67,11 @@ impl Nodes {
             return false;
         }
         let boxes = self.boxes_of(at.height, entries);
-        let code = best_division(&boxes, self.dims);
+        let boxes = Boxes {
+            sets: &boxes[..entries.len()],
+            dims: self.dims,
+        };
+        let code = boxes.best_division();
         let stay = group_of(code, false, entries);
         let leave = group_of(code, true, entries);
         self.write(at, stay.as_slice());
