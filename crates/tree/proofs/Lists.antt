@@ -1,9 +1,9 @@
 -- Lists, with nothing of the catalogue.
-use Rattle.std.proofs.Common.{◌≡◌, ℕ, ◌+◌, ◌-◌, ◌<◌, ◌≤◌, suc, Bool, true, false, List, [], ◌∷◌, ◌++◌, map, length, get_or, take, drop, replicate, set, sym, refl, ap, ◌∙◌, ap₂, add-one, arith}
+use Rattle.std.proofs.Common.{◌≡◌, ℕ, ◌+◌, ◌-◌, ◌<◌, suc, Bool, true, false, List, [], ◌∷◌, ◌++◌, map, length, get_or, take, drop, set, sym, refl, ap, ◌∙◌, ap₂, add-one, arith}
 use mathlib.Core.Bool.{beq}
 use Rattle.rules.specs.Division.{alike}
 use borrow.Rule.Slice.PartMut.{put_mid}
-use Rattle.std.proofs.Math.Seq.{take-append-add, take-append_seam}
+use Rattle.std.proofs.Math.Seq.{take-append_seam}
 use Rattle.std.proofs.lemmas.Slice.{take-put_mid}
 use Rattle.std.proofs.lemmas.List.{take-append-le, drop-append-le, drop-drop, take-take, length-append, length-drop, length-take, append_assoc, take_more, take_more_set, map_push}
 
@@ -28,15 +28,6 @@ alike_beq true true = refl
 alike_beq true false = refl
 alike_beq false true = refl
 alike_beq false false = refl
-
-pub cut : {X : Type 0} (n : ℕ) (xs : List X) → take (n - 0) xs ≡ take n xs
-cut n xs = let z : n - 0 ≡ n = omega arith in ap (λ m. take m xs) z
-
--- some entries, and in the place behind them one more
-pub one_more : {X : Type 0} (xs : List X) (x : X) → length xs ≤ 8 → take (length xs + 1) (xs ++ replicate (9 - length xs) x) ≡ xs ++ x ∷ []
-one_more xs x l =
-    let e : 9 - length xs ≡ suc (8 - length xs) = omega arith in
-    take-append-add xs (replicate (9 - length xs) x) 1 ∙ ap (λ m. xs ++ take 1 (replicate m x)) e
 
 -- the entry at p, put behind the others of es by a rotation, and left out
 pub rotated_out : {X : Type 0} (es rest all ys : List X) (p : ℕ) → p < length es → all ≡ es ++ rest → let part = take (length es - p) (drop p all) in ys ≡ drop 1 part ++ take 1 part

@@ -4,6 +4,8 @@ ghost use Rattle.rules.specs.Division.{parting, divides, group};
 ghost use Rattle.space.specs.Boxes.{around, has};
 ghost use Rattle.tree.specs.Nodes.{divided};
 
+use crate::boxes::Boxes;
+use crate::entries::Entries;
 use crate::fixed::{Sets, area_of, common_of};
 use crate::node::NodeEntry;
 
@@ -15,44 +17,12 @@ pub(crate) fn in_code(code: usize, i: usize) -> bool
     (code >> i) % 2 == 1
 }
 
-// The box around those boxes that the code puts in one group. `second` is the rules' own test of a group; an enum of the two groups would
-// be turned back into it in every clause.
-pub(crate) fn group_box(boxes: &[Sets], code: usize, second: bool) -> Sets
-    requires { length boxes.now ≤ 9 }
-    ensures { result ≡ around 10 (group second code boxes.now) }
-{
-    let mut around = [0; 10];
-    for (i, b) in boxes.iter().enumerate() {
-        if in_code(code, i) == second {
-            space::join(&mut around, b);
-        }
-    }
-    around
-}
-
 // What a division is judged by, in this order: the common area of the groups' boxes, the sum of their areas, and the code.
 #[derive(Clone, Copy, PartialEq, Eq, PartialOrd, Ord)]
 pub(crate) struct Parting {
     pub(crate) common: u64,
     pub(crate) areas: u64,
     pub(crate) code: usize,
-}
-
-// The parting of that code.
-pub(crate) fn parting_of(boxes: &[Sets], dims: usize, code: usize) -> Parting
-    requires axes { dims ≤ 10 }
-    requires nine { length boxes.now ≤ 9 }
-    ensures { parting dims (map (take dims) boxes.now) code ≡ (result.common, result.areas, result.code) }
-{
-    let first = group_box(boxes, code, false);
-    let second = group_box(boxes, code, true);
-    let first = &first[0..dims];
-    let second = &second[0..dims];
-    Parting {
-        common: common_of(first, second),
-        areas: area_of(first) + area_of(second),
-        code,
-    }
 }
 
 // Whether the code divides nine entries.
@@ -62,31 +32,58 @@ pub(crate) fn is_division(code: usize) -> bool
     code % 2 == 0 && (3..=6).contains(&code.count_ones())
 }
 
-// The best division of nine entries. There is one, so the default is never needed.
-pub(crate) fn best_division(boxes: &[Sets], dims: usize) -> usize
-    requires axes { dims ≤ 10 }
-    requires nine { length boxes.now ≤ 9 }
-    ensures { result ≡ divided dims (map (take dims) boxes.now) }
-{
-    (0..512)
-        .filter(|code| is_division(*code))
-        .map(|code| parting_of(boxes, dims, code))
-        .min()
-        .map_or(14, |best| best.code)
-}
+impl Boxes<'_> {
+    // The box around those that the code puts in one group. `second` is the rules' own test of a group; an enum of the two groups would
+    // be turned back into it in every clause.
+    fn group_box(&self, code: usize, second: bool) -> Sets
+        ensures { result ≡ around 10 (group second code self.now.sets.now) }
+    {
+        let mut around = [0; 10];
+        for (i, b) in self.sets.iter().enumerate() {
+            if in_code(code, i) == second {
+                space::join(&mut around, b);
+            }
+        }
+        around
+    }
 
-// Those entries that the code puts in one group, and how many they are.
-pub(crate) fn group_of(code: usize, second: bool, entries: &[NodeEntry]) -> ([NodeEntry; 9], usize)
-    requires { length entries.now ≤ 9 }
-    ensures { (take result.1 result.0 ≡ group second code entries.now) × (result.1 ≤ 9) }
-{
-    let mut out = [NodeEntry::Free; 9];
-    let mut n = 0;
-    for (i, e) in entries.iter().enumerate() {
-        if in_code(code, i) == second {
-            out[n] = *e;
-            n += 1;
+    // The parting of that code.
+    fn parting_of(&self, code: usize) -> Parting
+        ensures { parting self.now.dims (map (take self.now.dims) self.now.sets.now) code ≡ (result.common, result.areas, result.code) }
+    {
+        let first = self.group_box(code, false);
+        let second = self.group_box(code, true);
+        let first = &first[..self.dims];
+        let second = &second[..self.dims];
+        Parting {
+            common: common_of(first, second),
+            areas: area_of(first) + area_of(second),
+            code,
         }
     }
-    (out, n)
+
+    // The best division of nine entries with these boxes. There is one, so the default is never needed.
+    pub(crate) fn best_division(&self) -> usize
+        ensures { result ≡ divided self.now.dims (map (take self.now.dims) self.now.sets.now) }
+    {
+        (0..512)
+            .filter(|code| is_division(*code))
+            .map(|code| self.parting_of(code))
+            .min()
+            .map_or(14, |best| best.code)
+    }
+}
+
+// Those entries that the code puts in one group.
+pub(crate) fn group_of(code: usize, second: bool, entries: &[NodeEntry]) -> Entries
+    requires { length entries.now ≤ 9 }
+    ensures { result ≡ group second code entries.now }
+{
+    let mut out = Entries::new();
+    for (i, e) in entries.iter().enumerate() {
+        if in_code(code, i) == second {
+            out.push(*e);
+        }
+    }
+    out
 }

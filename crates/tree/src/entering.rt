@@ -3,7 +3,7 @@ ghost use Rattle.std.specs.Prelude.{◌≡◌, ℕ, suc, ◌+◌, ◌<◌, ◌�
 ghost use Rattle.tree.specs.Leaving.{EachOnce, EnteredClip};
 ghost use Rattle.tree.specs.Nodes.{Sound, SoundIn, Lettered, EnteredBelow, EnteredRoot, times, held, inside, node, no_entry, spot, place_in, place_of};
 
-use crate::choice::choose;
+use crate::boxes::Boxes;
 use crate::free::FreePlaces;
 use crate::node::NodeEntry;
 use crate::nodes::{Nodes, Subtree};
@@ -20,7 +20,11 @@ impl Nodes {
     {
         let entries = self.places[at.place].entries();
         let boxes = self.boxes_of(at.height, entries);
-        let place = choose(&boxes[..entries.len()], self.dims, clip.letters);
+        let boxes = Boxes {
+            sets: &boxes[..entries.len()],
+            dims: self.dims,
+        };
+        let place = boxes.choose(clip.letters);
         entries[place].place()
     }
 

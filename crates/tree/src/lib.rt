@@ -3,10 +3,12 @@
 
 mod again;
 mod aside;
+mod boxes;
 mod calls;
 mod choice;
 mod division;
 mod entering;
+mod entries;
 mod fixed;
 mod free;
 mod index;

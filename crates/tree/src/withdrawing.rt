@@ -4,26 +4,25 @@ ghost use Rattle.std.specs.List.{AllByRecursion};
 ghost use Rattle.tree.specs.Leaving.{RoomFor, Within, SetAside, listed_in, kept, WithdrawnBelow, WithdrawnRoot};
 ghost use Rattle.tree.specs.Nodes.{Sound, SoundIn, Written, times, inside, node, spot};
 
+use crate::entries::Entries;
 use crate::free::FreePlaces;
 use crate::node::NodeEntry;
 use crate::nodes::{Nodes, Subtree};
 use crate::padded::padded;
 use crate::worklist::Worklist;
 
-// The entries of a leaf but those of that number, and how many they are: in an array of fixed size, since nothing here takes memory.
-pub(crate) fn other_clips(entries: &[NodeEntry], number: u32) -> ([NodeEntry; 8], usize)
+// The entries of a leaf but those of that number.
+pub(crate) fn other_clips(entries: &[NodeEntry], number: u32) -> Entries
     requires { length entries.now ≤ 8 }
-    ensures { (take result.1 result.0 ≡ kept number entries.now) × (result.1 ≤ 8) }
+    ensures { result ≡ kept number entries.now }
 {
-    let mut out = [NodeEntry::Free; 8];
-    let mut n = 0;
+    let mut out = Entries::new();
     for entry in entries {
         if entry.clip().number != number {
-            out[n] = *entry;
-            n += 1;
+            out.push(*entry);
         }
     }
-    (out, n)
+    out
 }
 
 impl Nodes {
@@ -56,8 +55,8 @@ impl Nodes {
         ensures written { Written self.old.dims self.old.places.items self.new.places.items 0 place (kept number (inside (node self.old.places.items place))) }
         ensures dims { self.new.dims ≡ self.old.dims }
     {
-        let (stay, m) = other_clips(self.places[place].entries(), number);
-        self.write(Subtree { place, height: 0 }, &stay[..m]);
+        let stay = other_clips(self.places[place].entries(), number);
+        self.write(Subtree { place, height: 0 }, stay.as_slice());
     }
 
     // Makes a node anew without its entry at p.

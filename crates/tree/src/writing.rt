@@ -4,11 +4,12 @@ ghost use Rattle.rules.specs.Tree.{sets_of};
 ghost use Rattle.std.specs.List.{AllByRecursion};
 ghost use Rattle.tree.specs.Nodes.{Sound, SoundIn, entry_of, boxes_of, Written, Fitted, one, total, times, inside, node};
 
-use crate::division::{best_division, group_of};
+use crate::boxes::Boxes;
+use crate::division::group_of;
+use crate::entries::Entries;
 use crate::fixed::{Sets, box_around, point_of};
 use crate::node::{Node, NodeEntry};
 use crate::nodes::{Nodes, Subtree};
-use crate::padded::padded;
 
 impl Nodes {
     // The box of an entry: the point of a clip at height 0, and above that a node's own.
@@ -27,8 +28,7 @@ impl Nodes {
     pub(crate) fn boxes_of(&self, height: usize, entries: &[NodeEntry]) -> [Sets; 9]
         requires few { length entries.now ≤ 9 }
         requires sound { AllByRecursion (Sound self.now.places.items height) entries.now }
-        ensures long { AllByRecursion (λ b. length b ≡ 10) result }
-        ensures boxes { map (take self.now.dims) (take (length entries.now) result) ≡ boxes_of self.now.dims self.now.places.items height entries.now }
+        ensures { map (take self.now.dims) (take (length entries.now) result) ≡ boxes_of self.now.dims self.now.places.items height entries.now }
     {
         // By index: after a zip with iter_mut the proof has not the boxes that were written.
         let mut boxes = [[0; 10]; 9];
@@ -67,15 +67,19 @@ impl Nodes {
             return false;
         }
         let boxes = self.boxes_of(at.height, entries);
-        let code = best_division(&boxes, self.dims);
-        let (stay, n) = group_of(code, false, entries);
-        let (leave, m) = group_of(code, true, entries);
-        self.write(at, &stay[..n]);
+        let boxes = Boxes {
+            sets: &boxes[..entries.len()],
+            dims: self.dims,
+        };
+        let code = boxes.best_division();
+        let stay = group_of(code, false, entries);
+        let leave = group_of(code, true, entries);
+        self.write(at, stay.as_slice());
         let other = Subtree {
             place: spare,
             height: at.height,
         };
-        self.write(other, &leave[..m]);
+        self.write(other, leave.as_slice());
         true
     }
 
@@ -88,11 +92,9 @@ impl Nodes {
         ensures fitted { Fitted self.old.dims self.old.places.items self.new.places.items at.height at.place spare (inside (node self.old.places.items at.place) ++ entry ∷ []) result }
         ensures dims { self.new.dims ≡ self.old.dims }
     {
-        let node = self.places[at.place];
-        let before = node.entries();
-        // The entry stands behind the others, and again in what is cut off.
-        let entries: [NodeEntry; 9] = padded(before, entry);
-        self.settle(at, spare, &entries[..before.len() + 1])
+        let mut entries = Entries::copied(self.places[at.place].entries());
+        entries.push(entry);
+        self.settle(at, spare, entries.as_slice())
     }
 
     // Makes a node anew of its own entries.

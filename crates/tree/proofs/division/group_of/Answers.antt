@@ -1,6 +1,6 @@
 use Rattle.tree.specs.Nodes.{no_entry}
-use Rattle.std.proofs.Common.{◌+◌, ◌/◌, ◌^◌, [], ◌∷◌, ◌++◌, length, get_or, take, drop, sym, ap, ◌∙◌, ap₂, arith, length-set}
-use Rattle.std.proofs.lemmas.List.{append_assoc, take_more_set}
+use Rattle.std.proofs.Common.{◌+◌, ◌/◌, ◌^◌, [], ◌∷◌, ◌++◌, length, get_or, drop, sym, ap, ◌∙◌, arith}
+use Rattle.std.proofs.lemmas.List.{append_assoc, length_push}
 use Rattle.rules.specs.Division.{group}
 use Rattle.tree.proofs.Parts.{group_takes, group_passes}
 use Rattle.tree.proofs.division.group_of.Goals as goal
@@ -12,22 +12,18 @@ loop-i-preserved c =
     let code = c.args.code in
     let es = c.args.entries.now in
     let i = c.loop-i.i in
-    let n = c.loop-i.n in
     let out = c.loop-i.out in
     let e = get_or c.args.entries.now c.loop-i.i no_entry in
     let rest = group c.args.second (c.args.code / 2 ^ (c.loop-i.i + 1)) (drop (c.loop-i.i + 1) c.args.entries.now) in
     elim c.if-in_code-second.branch [
       | then-in_code-second w ↦ (
-        ap length w.out-is ∙ length-set _ _ _ ∙ c.loop-i.invariant.0,
-        omega (arith, w.n-is),
-        ap₂ (λ m o. take m o ++ rest) w.n-is w.out-is
-            ∙ ap (λ x. x ++ rest) (take_more_set out n e (omega arith)) ∙ append_assoc (take n out) (e ∷ []) rest
-            ∙ ap (λ x. take n out ++ x) (sym (group_takes b code es i no_entry _ (omega arith) c.in_code.ensures w.if-in_code-second.true)) ∙ c.loop-i.invariant.2,
+        omega (arith, ap length (w.out-is ∙ w.push.ensures), length_push c.loop-i.out e),
+        ap (λ x. x ++ rest) (w.out-is ∙ w.push.ensures) ∙ append_assoc out (e ∷ []) rest
+            ∙ ap (λ x. out ++ x) (sym (group_takes b code es i no_entry _ (omega arith) c.in_code.ensures w.if-in_code-second.true)) ∙ c.loop-i.invariant.1,
       )
       | else-in_code-second w ↦ (
-        ap length w.out-is ∙ c.loop-i.invariant.0,
-        omega (arith, w.n-is),
-        ap₂ (λ m o. take m o ++ rest) w.n-is w.out-is
-            ∙ ap (λ x. take n out ++ x) (sym (group_passes b code es i no_entry _ (omega arith) c.in_code.ensures w.if-in_code-second.false)) ∙ c.loop-i.invariant.2,
+        omega (arith, ap length w.out-is),
+        ap (λ x. x ++ rest) w.out-is
+            ∙ ap (λ x. out ++ x) (sym (group_passes b code es i no_entry _ (omega arith) c.in_code.ensures w.if-in_code-second.false)) ∙ c.loop-i.invariant.1,
       )
     ]

@@ -10,7 +10,7 @@ unfolding place_of
 returns c =
     let w = read_entries c.args.self.now.places.items c.args.at.place c.index.result.now c.requires.sound.0 c.index.ensures _ c.entries-entries.ensures.entries in
     let e : c.choose-place.result ≡ place_of c.args.self.now.dims c.args.self.now.places.items c.args.at.height c.args.at.place c.args.clip =
-    c.choose-place.ensures.place ∙ ap (λ x. chosen x (take c.args.self.now.dims c.args.clip.letters)) (c.boxes_of-boxes.ensures.boxes ∙ ap (boxes_of c.args.self.now.dims c.args.self.now.places.items c.args.at.height) w) in
+    c.choose-place.ensures.place ∙ ap (λ x. chosen x (take c.args.self.now.dims c.args.clip.letters)) (c.boxes_of-boxes.ensures ∙ ap (boxes_of c.args.self.now.dims c.args.self.now.places.items c.args.at.height) w) in
     let l : c.choose-place.result < length c.entries-entries.result.now = omega (arith, c.choose-place.ensures.within, length-take {A = List ℕ} (length c.entries-entries.result.now) c.boxes_of-boxes.result) in
     record {
       place = subst (λ p. p < length (inside (node c.args.self.now.places.items c.args.at.place))) e (subst (λ es. c.choose-place.result < length es) w l);

@@ -1,6 +1,5 @@
-use Rattle.std.proofs.Common.{◌≡◌, ℕ, true, false, List, map, length, take, sym, ap, ◌∙◌, subst, arith, rules}
+use Rattle.std.proofs.Common.{◌≡◌, true, false, map, length, take, sym, ap, ◌∙◌, subst, arith}
 use Rattle.std.specs.List.{AllByRecursion}
-use Rattle.std.proofs.lemmas.List.{take_all}
 use Rattle.rules.specs.Tree.{sets_of}
 use Rattle.rules.proofs.Groups.{Code, all_group}
 use Rattle.tree.specs.Nodes.{Sound, Written, entry_of, divided}
@@ -13,15 +12,11 @@ returns-then-entries-le8-clause-fitted c =
     settled_one c.args.self.now.dims c.args.self.now.places.items c.args.at.height c.args.at.place c.args.spare c.args.entries.now c.requires.within c.requires.apart c.requires.sound
     c.write.new.self.places.items c.write.ensures.written c.requires.some (omega arith)
 
--- the code is that of the boxes of the entries
-coded : (dims n code : ℕ) (bs xs ys : List (List ℕ)) → length bs ≡ n → map (take dims) (take n bs) ≡ xs → xs ≡ ys → code ≡ divided dims (map (take dims) bs) → code ≡ divided dims ys
-coded dims n code bs xs ys l e f h = h ∙ ap (λ x. divided dims (map (take dims) x)) (sym (take_all n bs (omega arith))) ∙ ap (divided dims) (e ∙ f)
-
 pub write-requires-2 : goal.write-requires-2
 write-requires-2 c =
     let nine : length c.args.entries.now ≡ 9 = omega arith in
-    let h : Code c.best_division-code.result = subst Code (sym c.best_division-code.ensures) (divided_code c.args.self.now.dims (map (take c.args.self.now.dims) c.boxes_of-boxes.result)) in
-    let e = c.group_of-n.ensures.0 in
+    let h : Code c.best_division-code.result = subst Code (sym c.best_division-code.ensures) (divided_code c.args.self.now.dims (map (take c.args.self.now.dims) (take (length c.args.entries.now) c.boxes_of-boxes.result))) in
+    let e = c.as_slice.ensures ∙ c.group_of-stay.ensures in
     let f = side_few false c.best_division-code.result c.args.entries.now _ e nine h in
     record {
       few = f.1;
@@ -32,9 +27,9 @@ write-requires-2 c =
 pub write-requires-3 : goal.write-requires-3
 write-requires-3 c =
     let nine : length c.args.entries.now ≡ 9 = omega arith in
-    let h : Code c.best_division-code.result = subst Code (sym c.best_division-code.ensures) (divided_code c.args.self.now.dims (map (take c.args.self.now.dims) c.boxes_of-boxes.result)) in
-    let e = c.group_of-m.ensures.0 in
-    let g = c.group_of-n.ensures.0 in
+    let h : Code c.best_division-code.result = subst Code (sym c.best_division-code.ensures) (divided_code c.args.self.now.dims (map (take c.args.self.now.dims) (take (length c.args.entries.now) c.boxes_of-boxes.result))) in
+    let e = c.as_slice-2.ensures ∙ c.group_of-leave.ensures in
+    let g = c.as_slice.ensures ∙ c.group_of-stay.ensures in
     let f = side_few true c.best_division-code.result c.args.entries.now _ e nine h in
     let p = subst (λ x. Written c.args.self.now.dims c.args.self.now.places.items c.write-2.new.self.places.items c.args.at.height c.args.at.place x) g c.write-2.ensures.written in
     let s = second_side c.args.self.now.dims c.args.self.now.places.items c.args.at.height c.args.at.place c.args.spare c.args.entries.now c.requires.within c.requires.apart c.requires.sound
@@ -48,12 +43,11 @@ write-requires-3 c =
 pub returns-clause-fitted : goal.returns-clause-fitted
 returns-clause-fitted c =
     let nine : length c.args.entries.now ≡ 9 = omega arith in
-    let h : Code c.best_division-code.result = subst Code (sym c.best_division-code.ensures) (divided_code c.args.self.now.dims (map (take c.args.self.now.dims) c.boxes_of-boxes.result)) in
-    let e = c.group_of-m.ensures.0 in
-    let g = c.group_of-n.ensures.0 in
+    let h : Code c.best_division-code.result = subst Code (sym c.best_division-code.ensures) (divided_code c.args.self.now.dims (map (take c.args.self.now.dims) (take (length c.args.entries.now) c.boxes_of-boxes.result))) in
+    let e = c.as_slice-2.ensures ∙ c.group_of-leave.ensures in
+    let g = c.as_slice.ensures ∙ c.group_of-stay.ensures in
     let p = subst (λ x. Written c.args.self.now.dims c.args.self.now.places.items c.write-2.new.self.places.items c.args.at.height c.args.at.place x) g c.write-2.ensures.written in
-    let q = subst (λ x. Written c.args.self.now.dims c.write-2.new.self.places.items c.write-3.new.self.places.items c.args.at.height c.args.spare x) e (subst (λ d. Written d c.write-2.new.self.places.items c.write-3.new.self.places.items c.args.at.height c.args.spare (take c.group_of-m.result.1 c.group_of-m.result.0)) c.write-2.ensures.dims c.write-3.ensures.written) in
-    let ten : length c.boxes_of-boxes.result ≡ length c.args.entries.now = search rules in
+    let q = subst (λ x. Written c.args.self.now.dims c.write-2.new.self.places.items c.write-3.new.self.places.items c.args.at.height c.args.spare x) e (subst (λ d. Written d c.write-2.new.self.places.items c.write-3.new.self.places.items c.args.at.height c.args.spare c.as_slice-2.result.now) c.write-2.ensures.dims c.write-3.ensures.written) in
     settled_two c.args.self.now.dims c.args.self.now.places.items c.args.at.height c.args.at.place c.args.spare c.args.entries.now c.requires.within c.requires.apart c.requires.sound
     c.write-2.new.self.places.items c.write-3.new.self.places.items c.best_division-code.result c.requires.room nine h p q
-    (coded c.args.self.now.dims (length c.args.entries.now) c.best_division-code.result c.boxes_of-boxes.result _ _ ten c.boxes_of-boxes.ensures.boxes (sym (map_map (sets_of c.args.at.height) (entry_of c.args.self.now.dims c.args.self.now.places.items c.args.at.height) c.args.entries.now)) c.best_division-code.ensures)
+    (c.best_division-code.ensures ∙ ap (divided c.args.self.now.dims) (c.boxes_of-boxes.ensures ∙ sym (map_map (sets_of c.args.at.height) (entry_of c.args.self.now.dims c.args.self.now.places.items c.args.at.height) c.args.entries.now)))

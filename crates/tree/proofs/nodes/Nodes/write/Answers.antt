@@ -13,5 +13,5 @@ returns-clause-written c =
       holds = c.new.ensures.entries;
       sets = ap (take c.args.self.now.dims) (c.new.ensures.sets ∙ c.box_around-sets.ensures)
           ∙ take_around c.args.self.now.dims bs c.args.self.now.axes
-          ∙ ap (around c.args.self.now.dims) c.boxes_of-boxes.ensures.boxes;
+          ∙ ap (around c.args.self.now.dims) c.boxes_of-boxes.ensures;
     }
