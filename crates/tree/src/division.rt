@@ -39,6 +39,7 @@ impl Boxes<'_> {
         ensures { result ≡ around 10 (group second code self.now.sets.now) }
     {
         let mut around = [0; 10];
+        // By place, as below: the place of a box is the digit of the code that says where it goes.
         for (i, b) in self.sets.iter().enumerate() {
             if in_code(code, i) == second {
                 space::join(&mut around, b);
