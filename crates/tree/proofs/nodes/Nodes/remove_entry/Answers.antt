@@ -1,13 +1,8 @@
-use Rattle.std.proofs.Common.{suc, ◌++◌, length, take, drop, sym, ap, ◌∙◌, subst, arith}
+use Rattle.std.proofs.Common.{suc, ◌++◌, take, drop, sym, ap, ◌∙◌, subst}
 use Rattle.std.specs.List.{AllByRecursion}
 use Rattle.tree.specs.Nodes.{Sound, Written}
 use Rattle.tree.proofs.ReadNodes.{read_entries}
 use Rattle.tree.proofs.nodes.Nodes.remove_entry.Goals as goal
-
-pub remove-requires : goal.remove-requires
-remove-requires c =
-    let w = read_entries c.args.self.now.places.items c.args.at.place c.index.result.now c.requires.within c.index.ensures _ c.entries.ensures.entries in
-    omega (arith, c.requires.place, ap length (c.copied-entries.ensures ∙ w))
 
 pub write-requires-clause-sound : goal.write-requires-clause-sound
 write-requires-clause-sound c =
