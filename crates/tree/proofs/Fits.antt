@@ -20,9 +20,9 @@ pub divided_is : (d : ℕ) (bs : List (List ℕ)) → divided d bs ≡ division 
 unfolding divided
 divided_is d bs = refl
 
-pub divided_code : (d : ℕ) (bs : List (List ℕ)) → Code (divided d bs)
+pub divided_code : (d code : ℕ) (bs : List (List ℕ)) → code ≡ divided d bs → Code code
 unfolding divided
-divided_code d bs = division_code d bs
+divided_code d code bs e = subst Code (sym e) (division_code d bs)
 
 total_pick : (f : NodeEntry → ℕ) (t : Bool) (e : NodeEntry) (es : List NodeEntry) → total f (cond t (e ∷ es) es) ≡ cond t (f e) 0 + total f es
 total_pick f true e es = refl

@@ -1,11 +1,11 @@
 -- Lists, with nothing of the catalogue.
-use Rattle.std.proofs.Common.{◌≡◌, ℕ, ◌+◌, ◌-◌, ◌<◌, suc, Bool, true, false, List, [], ◌∷◌, ◌++◌, map, length, get_or, take, drop, set, sym, refl, ap, ◌∙◌, ap₂, add-one, arith}
+use Rattle.std.proofs.Common.{◌≡◌, ℕ, ◌+◌, ◌-◌, ◌<◌, ◌≤◌, suc, Bool, true, false, List, [], ◌∷◌, ◌++◌, map, length, get_or, take, drop, set, sym, refl, ap, ◌∙◌, ap₂, add-one, arith}
 use mathlib.Core.Bool.{beq}
 use Rattle.rules.specs.Division.{alike}
 use borrow.Rule.Slice.PartMut.{put_mid}
 use Rattle.std.proofs.Math.Seq.{take-append_seam}
 use Rattle.std.proofs.lemmas.Slice.{take-put_mid}
-use Rattle.std.proofs.lemmas.List.{take-append-le, drop-append-le, drop-drop, take-take, length-append, length-drop, length-take, append_assoc, take_more, take_more_set, map_push}
+use Rattle.std.proofs.lemmas.List.{drop-drop, drop-take, take-take, length-take-le, length-append, length-drop, length-take, append_assoc, take_more, take_more_set, map_push}
 
 pub map_map : {X Y Z : Type 0} (f : Y → Z) (g : X → Y) (xs : List X) → map f (map g xs) ≡ map (λ x. f (g x)) xs
 map_map f g [] = refl
@@ -29,19 +29,19 @@ alike_beq true false = refl
 alike_beq false true = refl
 alike_beq false false = refl
 
--- the entry at p, put behind the others of es by a rotation, and left out
-pub rotated_out : {X : Type 0} (es rest all ys : List X) (p : ℕ) → p < length es → all ≡ es ++ rest → let part = take (length es - p) (drop p all) in ys ≡ drop 1 part ++ take 1 part
-    → take (length es - 1) (put_mid p (length es - p) all ys) ≡ take p es ++ drop (suc p) es
-rotated_out es rest all ys p l is turned =
+-- of the first n entries the one at p, put behind the others by a rotation, and left out
+pub rotated_out : {X : Type 0} (all ys : List X) (n p : ℕ) → p < n → n ≤ length all → let part = take (n - p) (drop p all) in ys ≡ drop 1 part ++ take 1 part
+    → take (n - 1) (put_mid p (n - p) all ys) ≡ take p (take n all) ++ drop (suc p) (take n all)
+rotated_out all ys n p l fits turned =
+    let es = take n all in
+    let size = length-take-le n all fits in
     let W = take p es ++ drop (suc p) es in
-    let long = length-drop p es in
-    let part : take (length es - p) (drop p all) ≡ drop p es =
-    ap (λ xs. take (length es - p) (drop p xs)) is ∙ ap (take (length es - p)) (drop-append-le p es rest (omega arith)) ∙ ap (λ n. take n (drop p es ++ rest)) (sym long) ∙ take-append_seam (drop p es) rest in
+    let sum : p + (n - p) ≡ n = omega arith in
+    let part : take (n - p) (drop p all) ≡ drop p es = sym (drop-take p (n - p) all) ∙ ap (λ m. drop p (take m all)) sum in
     let z = take 1 (drop p es) in
     let y : ys ≡ drop (suc p) es ++ z = turned ∙ ap (λ xs. drop 1 xs ++ take 1 xs) part ∙ ap (λ xs. xs ++ z) (drop-drop 1 p es ∙ ap (λ n. drop n es) (add-one p)) in
-    let front : take p all ≡ take p es = ap (take p) is ∙ take-append-le p es rest (omega arith) in
-    let many : length ys ≡ length es - p = ap length y ∙ length-append (drop (suc p) es) z ∙ omega (arith, length-drop (suc p) es, length-take 1 (drop p es), long) in
-    let whole : take (length es) (put_mid p (length es - p) all ys) ≡ W ++ z =
-    take-put_mid p (length es - p) all ys (length es) (omega arith) (omega (arith, ap length is, length-append es rest)) ∙ ap₂ (λ x y. x ++ y) front y ∙ sym (append_assoc (take p es) (drop (suc p) es) z) in
-    let w : length es - 1 ≡ length W = omega (arith, length-append (take p es) (drop (suc p) es), length-take p es, length-drop (suc p) es) in
-    sym (take-take (length es - 1) (length es) (put_mid p (length es - p) all ys) (omega arith)) ∙ ap (take (length es - 1)) whole ∙ ap (λ n. take n (W ++ z)) w ∙ take-append_seam W z
+    let many : length ys ≡ n - p = ap length y ∙ length-append (drop (suc p) es) z ∙ omega (arith, length-drop (suc p) es, length-take 1 (drop p es), length-drop p es, size) in
+    let whole : take n (put_mid p (n - p) all ys) ≡ W ++ z =
+    take-put_mid p (n - p) all ys n (omega arith) (omega arith) ∙ ap₂ (λ x y. x ++ y) (sym (take-take p n all (omega arith))) y ∙ sym (append_assoc (take p es) (drop (suc p) es) z) in
+    let w : n - 1 ≡ length W = omega (arith, length-append (take p es) (drop (suc p) es), length-take p es, length-drop (suc p) es, size) in
+    sym (take-take (n - 1) n (put_mid p (n - p) all ys) (omega arith)) ∙ ap (take (n - 1)) whole ∙ ap (λ m. take m (W ++ z)) w ∙ take-append_seam W z

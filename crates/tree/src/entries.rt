@@ -1,5 +1,5 @@
 // Entries on their way from one box to another.
-ghost use Rattle.std.specs.Prelude.{◌≡◌, ◌<◌, ◌≤◌, [], ◌∷◌, ◌++◌, length};
+ghost use Rattle.std.specs.Prelude.{◌≡◌, suc, ◌<◌, ◌≤◌, [], ◌∷◌, ◌++◌, length, take, drop};
 
 use crate::node::NodeEntry;
 use crate::padded::padded;
@@ -52,6 +52,16 @@ impl Entries {
     {
         self.items[self.len] = entry;
         self.len += 1;
+    }
+
+    // Takes the one at p out.
+    pub(crate) fn remove(&mut self, p: usize)
+        requires { p < length self.old }
+        ensures { self.new ≡ take p self.old ++ drop (suc p) self.old }
+    {
+        // It is put behind the others, and cut off.
+        self.items[p..self.len].rotate_left(1);
+        self.len -= 1;
     }
 
     // The entries, in their order.

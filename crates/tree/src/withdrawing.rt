@@ -8,7 +8,6 @@ use crate::entries::Entries;
 use crate::free::FreePlaces;
 use crate::node::NodeEntry;
 use crate::nodes::{Nodes, Subtree};
-use crate::padded::padded;
 use crate::worklist::Worklist;
 
 // The entries of a leaf but those of that number.
@@ -67,12 +66,9 @@ impl Nodes {
         ensures written { Written self.old.dims self.old.places.items self.new.places.items at.height at.place (take p (inside (node self.old.places.items at.place)) ++ drop (suc p) (inside (node self.old.places.items at.place))) }
         ensures dims { self.new.dims ≡ self.old.dims }
     {
-        let node = self.places[at.place];
-        let before = node.entries();
-        // It is put behind the others, and cut off.
-        let mut entries: [NodeEntry; 8] = padded(before, NodeEntry::Free);
-        entries[p..before.len()].rotate_left(1);
-        self.write(at, &entries[..before.len() - 1]);
+        let mut entries = Entries::copied(self.places[at.place].entries());
+        entries.remove(p);
+        self.write(at, entries.as_slice());
     }
 
     // Withdraws a number that is listed below a node. A node below that is left with less than three entries is taken out, and its tree set aside.

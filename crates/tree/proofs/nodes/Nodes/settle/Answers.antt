@@ -1,7 +1,7 @@
-use Rattle.std.proofs.Common.{◌≡◌, true, false, map, length, take, sym, ap, ◌∙◌, subst, arith}
+use Rattle.std.proofs.Common.{◌≡◌, true, false, length, sym, ap, ◌∙◌, subst, arith}
 use Rattle.std.specs.List.{AllByRecursion}
 use Rattle.rules.specs.Tree.{sets_of}
-use Rattle.rules.proofs.Groups.{Code, all_group}
+use Rattle.rules.proofs.Groups.{all_group}
 use Rattle.tree.specs.Nodes.{Sound, Written, entry_of, divided}
 use Rattle.tree.proofs.Lists.{map_map}
 use Rattle.tree.proofs.Fits.{settled_one, settled_two, second_side, side_few, divided_code}
@@ -15,7 +15,7 @@ returns-then-entries-le8-clause-fitted c =
 pub write-requires-2 : goal.write-requires-2
 write-requires-2 c =
     let nine : length c.args.entries.now ≡ 9 = omega arith in
-    let h : Code c.best_division-code.result = subst Code (sym c.best_division-code.ensures) (divided_code c.args.self.now.dims (map (take c.args.self.now.dims) (take (length c.args.entries.now) c.boxes_of-boxes.result))) in
+    let h = divided_code c.args.self.now.dims _ _ c.best_division-code.ensures in
     let e = c.as_slice.ensures ∙ c.group_of-stay.ensures in
     let f = side_few false c.best_division-code.result c.args.entries.now _ e nine h in
     record {
@@ -27,7 +27,7 @@ write-requires-2 c =
 pub write-requires-3 : goal.write-requires-3
 write-requires-3 c =
     let nine : length c.args.entries.now ≡ 9 = omega arith in
-    let h : Code c.best_division-code.result = subst Code (sym c.best_division-code.ensures) (divided_code c.args.self.now.dims (map (take c.args.self.now.dims) (take (length c.args.entries.now) c.boxes_of-boxes.result))) in
+    let h = divided_code c.args.self.now.dims _ _ c.best_division-code.ensures in
     let e = c.as_slice-2.ensures ∙ c.group_of-leave.ensures in
     let g = c.as_slice.ensures ∙ c.group_of-stay.ensures in
     let f = side_few true c.best_division-code.result c.args.entries.now _ e nine h in
@@ -43,7 +43,7 @@ write-requires-3 c =
 pub returns-clause-fitted : goal.returns-clause-fitted
 returns-clause-fitted c =
     let nine : length c.args.entries.now ≡ 9 = omega arith in
-    let h : Code c.best_division-code.result = subst Code (sym c.best_division-code.ensures) (divided_code c.args.self.now.dims (map (take c.args.self.now.dims) (take (length c.args.entries.now) c.boxes_of-boxes.result))) in
+    let h = divided_code c.args.self.now.dims _ _ c.best_division-code.ensures in
     let e = c.as_slice-2.ensures ∙ c.group_of-leave.ensures in
     let g = c.as_slice.ensures ∙ c.group_of-stay.ensures in
     let p = subst (λ x. Written c.args.self.now.dims c.args.self.now.places.items c.write-2.new.self.places.items c.args.at.height c.args.at.place x) g c.write-2.ensures.written in
