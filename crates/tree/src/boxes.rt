@@ -1,4 +1,4 @@
-// Boxes side by side. The type stands alone in its file, since the definitions that speak of it cannot be imported where it is declared.
+// Boxes side by side: what the choice of an entry and the division of nine look at.
 ghost use Rattle.std.specs.Prelude.{◌≤◌, length};
 
 use crate::fixed::Sets;
