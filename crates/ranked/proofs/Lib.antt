@@ -4,4 +4,3 @@ pub mod Ranks
 pub mod Finds
 mod Steps
 mod Sorted
-pub mod Orders

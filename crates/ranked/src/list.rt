@@ -10,7 +10,7 @@ use crate::order::Ranked;
 fn rank<T: Ranked>(list: &[T], item: &T) -> usize
     ensures { result ≡ rank_of T.before item.now list.now }
 {
-    let behind = list.iter().position(|x| *item < *x);
+    let behind = list.iter().position(|x| item.precedes(x));
     behind.unwrap_or(list.len())
 }
 

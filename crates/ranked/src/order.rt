@@ -1,35 +1,29 @@
-ghost use Rattle.ranked.specs.Find.{ahead};
-ghost use Rattle.std.specs.Ordering.{is_lt};
-ghost use Rattle.std.specs.declared.cmp.Ordering.TheVariants.{Equal};
+ghost use Rattle.ranked.specs.Rank.{Order, Tie};
 ghost use Rattle.std.specs.Prelude.{◌≡◌, Bool, nat_lt};
 ghost use Rattle.std.proofs.Common.{rules};
 
-use crate::find::Find;
-
-// A kind of entries that are ordered by their `cmp`, and of which two that compare as equal are one value.
-pub trait Ranked: Ord + Copy {
+// A kind of entries of which any two have an order, and two that tie are one value. No more is asked: how a type compares otherwise may differ.
+pub trait Ranked: Copy {
     // Whether the first stands strictly before the second.
     ghost before: { Self → Self → Bool };
 
-    ghost by_cmp: { (a b : Self) → is_lt (Self.cmp a b) ≡ before a b };
+    fn precedes(&self, other: &Self) -> bool
+        ensures { result ≡ before self.now other.now };
 
-    ghost tie: { (a b : Self) → Self.cmp a b ≡ Equal → a ≡ b };
+    ghost order: { Order before };
+
+    ghost tie: { Tie before };
 }
 
 // Numbers rank by size.
 impl Ranked for u64 {
     ghost before = { nat_lt };
 
-    ghost by_cmp = { Prim.search rules };
+    ghost order = { Prim.search rules };
 
     ghost tie = { Prim.search rules };
-}
 
-// The order is `ahead` of specs/Find.antt, where it is stated once.
-impl Ranked for Find {
-    ghost before = { ahead };
-
-    ghost by_cmp = { Prim.search rules };
-
-    ghost tie = { Prim.search rules };
+    fn precedes(&self, other: &u64) -> bool {
+        *self < *other
+    }
 }

@@ -1,5 +1,26 @@
+ghost use Rattle.std.proofs.Common.{rules};
+ghost use Rattle.std.specs.Prelude.{Bool, nat_lt};
+
 use crate::*;
 use std::test::Fail;
+
+// Ranks the later first, and compares by the earlier: how a type ranks is its own, and need not be how it compares.
+#[derive(Clone, Copy, PartialEq, Eq, PartialOrd, Ord, Debug)]
+struct Late {
+    at: u32,
+}
+
+impl Ranked for Late {
+    ghost before = { λ a b. nat_lt b.at a.at };
+
+    ghost order = { Prim.search rules };
+
+    ghost tie = { Prim.search rules };
+
+    fn precedes(&self, other: &Late) -> bool {
+        other.at < self.at
+    }
+}
 
 fn find(distance: u32, clip: u32) -> Find {
     Find { distance, clip }
@@ -64,4 +85,13 @@ fn finds_compare_by_distance_first(rt: HostRuntime) {
     assert!(rt; find(1, 9) < find(2, 4));
     assert!(rt; find(2, 4) < find(2, 9));
     assert!(rt; find(2, 4) == find(2, 4));
+}
+
+#[test]
+fn ranks_otherwise_than_it_compares(rt: HostRuntime) {
+    let mut list = [Late { at: 0 }; 3];
+    let items = [Late { at: 4 }, Late { at: 9 }, Late { at: 7 }];
+    assert_eq!(rt; insert_all(&mut list, 0, &items), 3);
+    assert_eq!(rt; list, [Late { at: 9 }, Late { at: 7 }, Late { at: 4 }]);
+    assert!(rt; list[0].precedes(&list[1]));
 }

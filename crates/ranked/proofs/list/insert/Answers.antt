@@ -1,6 +1,5 @@
 use Rattle.std.proofs.Common.{◌≡◌, ◌+◌, min, [], ◌∷◌, length, take, arith}
 use Rattle.std.specs.List.{insert}
-use Rattle.ranked.proofs.Orders.{order_by, tie_by}
 use Rattle.ranked.proofs.Steps.{insert_fits, insert_front, first_from, stays_from}
 use Rattle.ranked.proofs.list.insert.Goals as goal
 use Rattle.ranked.proofs.list.insert.Goals.{then-held-list, else-held-list}
@@ -27,12 +26,10 @@ returns g c =
     let put : take end s ≡ take end (insert l at c.args.item) = cc c.put.ensures.front in
     let front = insert_front before l s c.args.len c.min-held.result at end c.args.item held-is c.rank-at.ensures end_is put in
     let law = g.met.T.Ranked in
-    let order = order_by g.T.Ord.cmp before g.met.T.Ord.total law.by_cmp in
-    let tie = tie_by g.T.Ord.cmp before g.met.T.Ord.total law.by_cmp law.tie in
     record {
       count = omega arith;
       front = front;
       back = c.put.ensures.back;
-      first = first_from before order tie l _ (c.args.item ∷ []) c.args.len front;
-      stays = stays_from before order tie l _ (c.args.item ∷ []) c.args.len front;
+      first = first_from before law.order law.tie l _ (c.args.item ∷ []) c.args.len front;
+      stays = stays_from before law.order law.tie l _ (c.args.item ∷ []) c.args.len front;
     }

@@ -1,6 +1,5 @@
 use Rattle.std.proofs.Common.{length, take, drop, refl, ap, ◌∙◌, arith}
 use Rattle.ranked.specs.Rank.{keep_first}
-use Rattle.ranked.proofs.Orders.{order_by, tie_by}
 use Rattle.ranked.proofs.Steps.{take_held, insert_more, insert_done, drop_later, first_from, stays_from}
 use Rattle.ranked.proofs.list.insert_all.Goals as goal
 
@@ -35,12 +34,10 @@ returns g c =
     insert_done before (length l) held items (keep_first before (length l) (take c.args.len l) items) c.loop-item.item-index
     (omega arith) c.loop-item.invariant.1 in
     let law = g.met.T.Ranked in
-    let order = order_by g.T.Ord.cmp before g.met.T.Ord.total law.by_cmp in
-    let tie = tie_by g.T.Ord.cmp before g.met.T.Ord.total law.by_cmp law.tie in
     record {
       count = (let n = c.loop-item.invariant.0 in omega arith);
       front = front;
       back = c.loop-item.invariant.2;
-      first = first_from before order tie l held items c.args.len front;
-      stays = stays_from before order tie l held items c.args.len front;
+      first = first_from before law.order law.tie l held items c.args.len front;
+      stays = stays_from before law.order law.tie l held items c.args.len front;
     }

@@ -11,5 +11,5 @@ returns g c =
     let before = g.T.Ranked.before in
     c.unwrap_or.ensures
     ∙ ap (λ o. unwrap_or o (length list))
-    (position_from_yields_List (before c.args.item.now) c.position-behind.new.self _ _ c.position-behind.ensures.ran (YieldsList-from_slice list cc) (λ x b q k. let m = g.met.T.Ord.matches_partial_cmp c.args.item.now x.now in let e = g.met.T.Ranked.by_cmp c.args.item.now x.now in search rules))
+    (position_from_yields_List (before c.args.item.now) c.position-behind.new.self _ _ c.position-behind.ensures.ran (YieldsList-from_slice list cc) (λ x b q k. search rules))
     ∙ rank_found before c.args.item.now list
