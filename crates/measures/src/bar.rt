@@ -1,11 +1,11 @@
 // The bar, a layer over any measure.
-ghost use Rattle.measures.specs.Layers.{WithoutHas, barred, spared, gap, bar_distance, bar_floor};
+ghost use Rattle.measures.specs.Layers.{WithoutHas, barred, spared, without, gap, bar_distance, bar_floor};
 ghost use Rattle.std.specs.Prelude.{◌≡◌, ◌≤◌, length};
 ghost use Rattle.measures.specs.Layered.{bar_rule};
 
 use crate::cost::{are_vector_and_box, are_vectors};
 use crate::measure::Measure;
-use space::{has, rewrite};
+use space::has;
 
 // Ten sets of barred letters, one for each dimension. A vector with a barred letter has no distance. A box first loses its barred
 // letters, and has no floor only where a set has no letter left: one barred letter says nothing of the others.
@@ -37,13 +37,21 @@ fn has_barred(bars: &[u64; 10], vector: &[u8]) -> bool
     pairs.any(|(letter, barred)| has(*barred, *letter))
 }
 
-// Writes the box without its barred letters over `left`.
+// The letters of the set that are not barred.
+fn without(set: u64, barred: u64) -> u64
+    ensures { result ≡ without set barred }
+{
+    set & !barred
+}
+
+// Writes the box without its barred letters over `left`. By index: what is written through a zip of `iter_mut` is not known after it.
 fn spare(bars: &[u64; 10], sets: &[u64], left: &mut [u64])
     requires { (length sets.now ≤ 10) × (length left.old ≡ length sets.now) }
     ensures { left.new ≡ spared bars.now sets.now }
 {
-    left.copy_from_slice(sets);
-    rewrite(left, bars, |set, barred| set & !barred);
+    for (i, set) in sets.iter().enumerate() {
+        left[i] = without(*set, bars[i]);
+    }
 }
 
 // Whether a set has no letter.

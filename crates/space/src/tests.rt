@@ -1,4 +1,5 @@
 // The edges: one and ten dimensions, sizes 1 and 64, letter 63, empty sets.
+use crate::boxes::rewrite;
 use crate::*;
 use std::test::Fail;
 

@@ -1,8 +1,11 @@
-use Rattle.std.proofs.Common.{rules, arith}
-use Rattle.measures.proofs.Spares.{spares, without_is}
+use Rattle.std.proofs.Common.{arith}
+use Rattle.measures.specs.Bars.{spared_more, spared_all}
 use Rattle.measures.proofs.bar.spare.Goals as goal
+
+pub loop-i-preserved : goal.loop-i-preserved
+loop-i-preserved c =
+    rw c.without.ensures (spared_more c.args.bars.now c.args.sets.now c.loop-i.left c.loop-i.i (omega arith) (omega arith) (omega arith) c.loop-i.invariant)
 
 pub returns : goal.returns
 returns c =
-    let w = rw c.copy_from_slice.ensures.after at c.rewrite.ensures in
-    spares _ (λ m x z h k r. let e = without_is m x h k in search rules) c.args.sets.now c.args.bars.now _ (λ k. let f = c.type_inv.sets k in omega arith) c.fits-bars w
+    spared_all c.args.bars.now c.args.sets.now c.loop-i.left c.loop-i.i (omega arith) (omega arith) c.loop-i.invariant
