@@ -1,4 +1,3 @@
 mod Cuts
-mod Pieces
 mod Values
 mod Texts

@@ -23,11 +23,6 @@ abbrev pub onward : {X : Type 0} → Option ℕ → (ℕ → Option X) → Optio
 onward None f = None
 onward (Some n) f = f n
 
--- a field of which so much is read, and digits to come; none where it has no digit, another byte or too great a value
-abbrev pub field_from : Option ℕ → List ℕ → Option ℕ
-field_from value [] = value
-field_from value (b ∷ bs) = onward (longer value b) (λ n. field_from (Some n) bs)
-
 -- the fields of what is left of a text, where so much is read of the first
 abbrev pub fields_from : Option ℕ → List ℕ → Option (List ℕ)
 fields_from value [] = first value (Some [])

@@ -1,6 +1,6 @@
 // The fields of a line.
 ghost use Rattle.lines.specs.Faults.{Faulty};
-ghost use Rattle.lines.specs.Fields.{field_from, fields_from, fields_of, longer};
+ghost use Rattle.lines.specs.Fields.{fields_from, fields_of, longer};
 ghost use Rattle.lines.specs.declared.fields.FieldsError.TheVariants.{Malformed, Memory};
 ghost use Rattle.std.specs.Prelude.{◌≡◌, Some, None, MatchResult};
 
@@ -52,26 +52,22 @@ fn lengthen(value: Option<u32>, byte: u8) -> Option<u32>
     shifted.checked_add(u32::from(byte - b'0'))
 }
 
-// A field: its digits.
-fn read_field(digits: &[u8]) -> Result<u32, FieldsError>
-    ensures { MatchResult result (λ n. field_from None digits.now ≡ Some n) (Faulty (field_from None digits.now)) }
-{
-    // What is read of it; none before the first digit.
-    let mut value = None;
-    for byte in digits {
-        value = Some(lengthen(value, *byte).ok_or(FieldsError::Malformed)?);
-    }
-    value.ok_or(FieldsError::Malformed)
-}
-
-// The fields of a text that begins right after the space before the first.
+// The fields of a text that begins right after the space before the first. In one pass, so that a text is refused at its first fault: a
+// split at the spaces would go to the end of the field first.
 fn read_spaced(heap: Global, text: &[u8]) -> Result<Vec<u32>, FieldsError>
     ensures { MatchResult result (λ v. fields_from None text.now ≡ Some v.items) (Faulty (fields_from None text.now)) }
 {
     let mut fields = Vec::new(heap);
-    for digits in text.split(|byte| *byte == SPACE) {
-        fields.push(read_field(digits)?)?;
+    // What is read of the field that the next byte may belong to; none right after its space.
+    let mut value = None;
+    for byte in text {
+        if *byte == SPACE {
+            fields.push(value.take().ok_or(FieldsError::Malformed)?)?;
+        } else {
+            value = Some(lengthen(value, *byte).ok_or(FieldsError::Malformed)?);
+        }
     }
+    fields.push(value.ok_or(FieldsError::Malformed)?)?;
     Ok(fields)
 }
 
