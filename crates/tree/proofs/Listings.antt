@@ -50,6 +50,10 @@ pub record Copying (N : List Node) (g : ℕ) (es : List NodeEntry) (A B : List S
   pub long : length B ≡ length A
   pub rest : drop m B ≡ drop m A
 
+-- the entries that a walk goes over
+abbrev pub copied_of : {N : List Node} {g : ℕ} {es : List NodeEntry} {A B : List StoredClip} {m k : ℕ} → Copying N g es A B m k → List NodeEntry
+copied_of {es = es} w = es
+
 joined : (N : List Node) (g : ℕ) (es : List NodeEntry) (A B C : List StoredClip) (m j k : ℕ) → k < length es → m ≤ length B
     → Copying N g es A B m k → Copied N g (get_or es k no_entry) (drop m B) C j → Copying N g es A (take m B ++ C) (m + j) (k + 1)
 joined N g es A B C m j k l fits w s =

@@ -9,8 +9,8 @@ pub returns-clause-long : goal.returns-clause-long
 returns-clause-long c =
     let plan = c.args.plan.now in
     let clips = c.args.clips.now in
-    let e : c.write_letters.result ≡ 3 + length plan + 4 * length clips + length plan * length clips = omega arith in
-    e ∙ whole_long plan clips c.args.output.now c.write_letters.ensures.long
+    let long = whole_long plan clips c.args.output.now c.write_letters.ensures.long in
+    omega (arith, long)
 
 pub returns-clause-bytes : goal.returns-clause-bytes
 returns-clause-bytes c =
