@@ -9,4 +9,4 @@ mod tests;
 
 pub use find::Find;
 pub use list::{insert, insert_all, ranking_stands, sort_words};
-pub use order::Ranked;
+pub use order::{Ordered, Ranked};

@@ -1,5 +1,5 @@
 ghost use Rattle.std.proofs.Common.{rules};
-ghost use Rattle.std.specs.Prelude.{Bool, nat_lt};
+ghost use Rattle.std.specs.Prelude.{◌≡◌, Bool, nat_lt};
 
 use crate::*;
 use std::test::Fail;
@@ -20,6 +20,13 @@ impl Ranked for Late {
     fn precedes(&self, other: &Late) -> bool {
         other.at < self.at
     }
+}
+
+// What compares as it ranks is told by its comparison.
+fn is_before<T: Ordered>(a: &T, b: &T) -> bool
+    ensures { result ≡ T.before a.now b.now }
+{
+    a < b
 }
 
 fn find(distance: u32, clip: u32) -> Find {
@@ -94,4 +101,14 @@ fn ranks_otherwise_than_it_compares(rt: HostRuntime) {
     assert_eq!(rt; insert_all(&mut list, 0, &items), 3);
     assert_eq!(rt; list, [Late { at: 9 }, Late { at: 7 }, Late { at: 4 }]);
     assert!(rt; list[0].precedes(&list[1]));
+}
+
+#[test]
+fn finds_and_numbers_compare_as_they_rank(rt: HostRuntime) {
+    assert!(rt; is_before(&find(1, 9), &find(2, 4)));
+    assert!(rt; !is_before(&find(2, 4), &find(1, 9)));
+    assert!(rt; is_before(&find(2, 4), &find(2, 9)));
+    assert!(rt; !is_before(&find(2, 4), &find(2, 4)));
+    assert!(rt; is_before(&6u64, &7));
+    assert!(rt; !is_before(&7u64, &7));
 }

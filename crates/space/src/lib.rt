@@ -8,7 +8,8 @@ mod laws;
 mod plan;
 
 pub use boxes::{
-    DIMENSIONS, MOST_CLIPS, area, common_area, contains, has, is_dimensions, join, point, set_of,
+    DIMENSIONS, MOST_CLIPS, area, common_area, contains, has, is_dimensions, join, point, rewrite,
+    set_of,
 };
 pub use clip::{Clip, StoredClip};
 pub use described::Described;

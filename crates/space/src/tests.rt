@@ -1,5 +1,4 @@
 // The edges: one and ten dimensions, sizes 1 and 64, letter 63, empty sets.
-use crate::boxes::rewrite;
 use crate::*;
 use std::test::Fail;
 
