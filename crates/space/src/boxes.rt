@@ -31,7 +31,8 @@ pub fn contains(sets: &[u64], vector: &[u8]) -> bool
 }
 
 // Writes each set anew, of what it was and of what stands there in the other list, as far as both go.
-// By index: what is written through a zip of `iter_mut` is not known after it.
+// By index: what is written through a zip of `iter_mut` is not known after it. The one demand is of the function, which could not be called
+// without it; the lists may be any.
 pub fn rewrite<T: Copy, F: Fn(u64, T) -> u64>(sets: &mut [u64], other: &[T], f: F)
     requires { F.IsAlwaysCallable f }
     ensures { Rewritten (F.post f) sets.old other.now sets.new }
